@@ -891,8 +891,11 @@ def node_row(world, node):
     time_parent = world.time_parent.get(e) if node.kind != 'priorityClass' else node.parent
     kids = world.time_children.get(e, []) if node.kind != 'priorityClass' else []
     place, ident = world.position[e], node.attrs.get('id')
-    row = ['%d %d' % (e, place), maybe(node.parent or None), maybe(node.parent if in_class else None), maybe(time_parent),
-           '%d %d' % (place, place + len(doc.subtree(e))), '<'] + serials(n.serial for n in doc.children(e))
+    elements = [n.serial for n in doc.nodes if n.kind != 'priorityClass']
+    index = ['%d %d' % (elements.index(e), e)] if e in elements else ['-']
+    row = ['%d %d' % (e, place)] + index
+    row += [maybe(node.parent or None), maybe(node.parent if in_class else None), maybe(time_parent),
+            '%d %d' % (place, place + len(doc.subtree(e))), '<'] + serials(n.serial for n in doc.children(e))
     row += ['>'] + serials(kids) + [maybe(kids[-1] if kids else None), '-', ':',
                                     maybe(None if ident is None else doc.by_id(ident).serial)]
     if node.kind != 'priorityClass':

@@ -1,8 +1,8 @@
 #!/bin/sh
 # readers_compare.sh ORACLE [SCRIPTS [SEED]]: compares smilplay, as `rt try` builds it without a proof, with the
 # reference model in the folder ORACLE, over so many random scripts (differential.py says which). Many scripts go in one
-# run. Compared is the whole text: which orders are read, and of each refusal word, line and column; what can be read
-# and isn't built yet is `not-yet` on both sides. Prints how many answers of each kind there were, and each difference.
+# run. Compared is the whole text: which orders are read, and of each refusal word, line and column. Prints how many
+# answers of each kind there were, and each difference.
 set -eu
 . "$(dirname "$0")/program.sh"
 new_work

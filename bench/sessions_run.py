@@ -208,8 +208,8 @@ def put_faults(run):
     run.lines += ['', '# Lines that have no reading.']
     for line in ['frobnicate', '|a line without a session', 'end', 'endless']:
         run.refused(line)
-    for header in ['session run chunk=0', 'session run chunk=-1', 'session run reads=1,', 'session run writes=a',
-                   'session run speed=2', 'turns run chunk=3']:
+    for header in ['session run chunk=0', 'session run chunk=-1', 'session run reads=1,', 'session run reads=',
+                   'session run writes=a', 'session run speed=2', 'turns run chunk=3']:
         run.headers += 1
         run.refused(header)
     run.begin('', 'session run')

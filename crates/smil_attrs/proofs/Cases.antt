@@ -16,7 +16,7 @@ use Rattle.smil_grammar.specs.Texts.{◌>>=◌}
 use Rattle.smil_grammar.specs.Words.{id_len}
 use Rattle.smil_grammar.specs.Numbers.{with_fraction}
 use Rattle.smil_grammar.specs.Clock.{clock_within}
-use Rattle.smil_grammar.specs.Values.{either, above_zero, short_number_of, thousandths, id_of, dur_of, time_of, repeat_dur_of, count_of, endsync_of, higher_of, lower_of}
+use Rattle.smil_grammar.specs.Values.{either, above_zero, short_number_of, thousandths, id_of, dur_of, time_of, repeat_dur_of, repeat_count_of, endsync_of, higher_of, lower_of}
 use Rattle.smil_time_list.proofs.Printable.{clock_small, mapped}
 use Rattle.smil_attrs.proofs.Readings.{IsSmall, IsLength, length_small, both, word}
 use Rattle.smil_attrs.proofs.Counts.{IsCount, number_below}
@@ -36,7 +36,7 @@ repeat_reads P indefinite clock text =
     both P _ _ (word P (bytes_eq text (codes "indefinite")) time.Indefinite None indefinite tt)
     (mapped (λ n. time.At (pos n)) IsLength P clock (clock_within text >>= above_zero) (length_small text))
 
-pub count_reads : (P : Count → Type 0) → P count.Indefinite → ((n : ℕ) → IsCount n → P (count.Thousandths n)) → (text : List ℕ) → IfSome (count_of text) P
+pub count_reads : (P : Count → Type 0) → P count.Indefinite → ((n : ℕ) → IsCount n → P (count.Thousandths n)) → (text : List ℕ) → IfSome (repeat_count_of text) P
 count_reads P indefinite each text =
     both P _ _ (word P (bytes_eq text (codes "indefinite")) count.Indefinite None indefinite tt)
     (mapped count.Thousandths IsCount P each (option_map thousandths (with_fraction short_number_of 100 text) >>= above_zero) (number_below text))

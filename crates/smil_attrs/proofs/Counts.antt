@@ -9,7 +9,7 @@ use Rattle.std.proofs.lemmas.List.{append-nil}
 use Rattle.smil_model.specs.declared.document.Count.TheVariants as count
 use Rattle.smil_grammar.specs.Texts.{◌>>=◌, cut_at, point, trim}
 use Rattle.smil_grammar.specs.Numbers.{number_after, number_of, weight, fraction_of, parts_of, with_fraction}
-use Rattle.smil_grammar.specs.Values.{above_zero, short_number_of, thousandths, count_of}
+use Rattle.smil_grammar.specs.Values.{above_zero, short_number_of, thousandths, repeat_count_of}
 use Rattle.smil_grammar.specs.Spellings.{decimals, count_text}
 use Rattle.smil_lexis.proofs.Fronts.{Passes, passes_weaker, passes_on, uncut, cut_front}
 use Rattle.smil_lexis.proofs.Decimals.{decimal_passes, number_of_decimal}
@@ -133,7 +133,7 @@ decimals_read q r few small =
     three : (r : ℕ) → is_ascii_digit (48 + r / 100) ≡ true → is_ascii_digit (48 + r / 10 % 10) ≡ true → is_ascii_digit (48 + r % 10) ≡ true → fraction_of 100 ((48 + r / 100) ∷ (48 + r / 10 % 10) ∷ (48 + r % 10) ∷ []) ≡ Some r
     three r a b c = rw (a, b, c) (ap (λ (k : ℕ). Some k) (omega arith))
 
-pub count_read : (n : ℕ) → IsCount n → count_of (trim (count_text (count.Thousandths n))) ≡ Some (count.Thousandths n)
+pub count_read : (n : ℕ) → IsCount n → repeat_count_of (trim (count_text (count.Thousandths n))) ≡ Some (count.Thousandths n)
 count_read n h =
     let q = n / 1000 in let r = n % 1000 in
     let few : q < 1_000_000_000 = omega (arith, h.few) in

@@ -5,7 +5,7 @@ use Rattle.std.specs.List.{list_all, position_or_len}
 use Rattle.std.proofs.lemmas.Bool.{and_right, cases_lt, le-ltb}
 use Rattle.std.proofs.lemmas.Bool.Decides.{nat_tests}
 use Rattle.smil_grammar.specs.Texts.{cut_at}
-use Rattle.smil_grammar.specs.Nodes.{WrittenAttr, is_space, attribute_at, attributes_at, pieces_of, with_written}
+use Rattle.smil_grammar.specs.Nodes.{WrittenAttr, is_space, attribute_at, attributes_at, quote_pieces, with_written}
 use Rattle.smil_lexis.proofs.Pieces.{cut_pieces}
 
 -- what is left where no attribute stands
@@ -32,19 +32,19 @@ cut_not_spaces text cut e =
     ]
 
 abbrev Says : List ℕ → Option (List ℕ × List ℕ) → Type 0
-Says text found = MatchOption found (pieces_of text ≡ text ∷ []) (λ cut. (pieces_of text ≡ cut.0 ∷ pieces_of cut.1) × (length cut.0 + 1 + length cut.1 ≡ length text))
+Says text found = MatchOption found (quote_pieces text ≡ text ∷ []) (λ cut. (quote_pieces text ≡ cut.0 ∷ quote_pieces cut.1) × (length cut.0 + 1 + length cut.1 ≡ length text))
 
 says : (text : List ℕ) (found : Option (List ℕ × List ℕ)) → cut_at 34 text ≡ found → Says text found
 says text found e = subst (Says text) e (cut_pieces 34 text)
 
-pub no_more : (place : ℕ) (text : List ℕ) → cut_at 34 text ≡ None → attributes_at place (pieces_of text) ≡ ended text
+pub no_more : (place : ℕ) (text : List ℕ) → cut_at 34 text ≡ None → attributes_at place (quote_pieces text) ≡ ended text
 no_more place text e = rw (says text None e) refl
 
 nothing : (w : Option WrittenAttr) → with_written w None ≡ None
 nothing None = refl
 nothing (Some w) = refl
 
-pub half : (place : ℕ) (text lead rest : List ℕ) → cut_at 34 text ≡ Some (lead, rest) → cut_at 34 rest ≡ None → attributes_at place (pieces_of text) ≡ ended text
+pub half : (place : ℕ) (text lead rest : List ℕ) → cut_at 34 text ≡ Some (lead, rest) → cut_at 34 rest ≡ None → attributes_at place (quote_pieces text) ≡ ended text
 half place text lead rest e f =
     let one = says text (Some (lead, rest)) e in
     let two = says rest None f in
@@ -52,19 +52,19 @@ half place text lead rest e f =
 
 -- two cuts part the attribute's two pieces from the others
 two_cuts : (place : ℕ) (text lead behind value rest : List ℕ) → cut_at 34 text ≡ Some (lead, behind) → cut_at 34 behind ≡ Some (value, rest)
-    → attributes_at place (pieces_of text) ≡ with_written (attribute_at place lead value) (attributes_at (place + length lead + length value + 2) (pieces_of rest))
+    → attributes_at place (quote_pieces text) ≡ with_written (attribute_at place lead value) (attributes_at (place + length lead + length value + 2) (quote_pieces rest))
 two_cuts place text lead behind value rest e f =
     let one = says text (Some (lead, behind)) e in
     let two = says behind (Some (value, rest)) f in
     rw (one.0, two.0) refl
 
 pub malformed : (place : ℕ) (text lead behind value rest : List ℕ) → cut_at 34 text ≡ Some (lead, behind) → cut_at 34 behind ≡ Some (value, rest)
-    → attribute_at place lead value ≡ None → attributes_at place (pieces_of text) ≡ ended text
+    → attribute_at place lead value ≡ None → attributes_at place (quote_pieces text) ≡ ended text
 malformed place text lead behind value rest e f none =
     two_cuts place text lead behind value rest e f ∙ rw (none, cut_not_spaces text (lead, behind) e) refl
 
 pub passed : (place : ℕ) (text lead behind value rest : List ℕ) (w : WrittenAttr) → cut_at 34 text ≡ Some (lead, behind) → cut_at 34 behind ≡ Some (value, rest)
-    → attribute_at place lead value ≡ Some w → attributes_at place (pieces_of text) ≡ with_written (Some w) (attributes_at (place + (length lead + length value + 2)) (pieces_of rest))
+    → attribute_at place lead value ≡ Some w → attributes_at place (quote_pieces text) ≡ with_written (Some w) (attributes_at (place + (length lead + length value + 2)) (quote_pieces rest))
 passed place text lead behind value rest w e f some =
     let on : place + length lead + length value + 2 ≡ place + (length lead + length value + 2) = omega arith in
     two_cuts place text lead behind value rest e f ∙ rw (some, on) refl

@@ -14,7 +14,7 @@ use Rattle.smil_model.specs.declared.document.AttrName.{AttrName}
 use Rattle.smil_model.specs.declared.document.AttrName.TheVariants as name
 use Rattle.smil_grammar.specs.Texts.{space, quote, behind}
 use Rattle.smil_grammar.specs.Attributes.{kind_text, name_text, names}
-use Rattle.smil_grammar.specs.Nodes.{WrittenAttr, is_of_kind, attribute_at, attributes_at, pieces_of, shape_of, shape_behind, saved_shape_of, repeats}
+use Rattle.smil_grammar.specs.Nodes.{WrittenAttr, is_of_kind, attribute_at, attributes_at, quote_pieces, shape_of, shape_behind, saved_shape_of, repeats}
 use Rattle.smil_grammar.specs.Items.{count_of}
 use Rattle.smil_lexis.proofs.Decimals.{decimal_passes}
 use Rattle.smil_time_list.proofs.Spelled.{count_read}
@@ -61,7 +61,7 @@ lead_read place value name.To = refl
 no_quote : (b : ℕ) → is_unquoted b ≡ true → eqb b quote ≡ false
 no_quote b h = not-true (eqb b quote) h
 
-piece : (front rest : List ℕ) → Unquoted front → pieces_of (front ++ quote ∷ rest) ≡ front ∷ pieces_of rest
+piece : (front rest : List ℕ) → Unquoted front → quote_pieces (front ++ quote ∷ rest) ≡ front ∷ quote_pieces rest
 piece front rest h = slice_split_at (λ b. eqb b quote) front quote rest (All-from_recursion (λ b. eqb b quote ≡ false) front (each front h)) refl
   where
     each : (text : List ℕ) → Unquoted text → AllByRecursion (λ b. eqb b quote ≡ false) text
@@ -84,16 +84,16 @@ line_of values ns = flat_map (λ n. attribute_text n (values n)) ns
 regroup : (n : AttrName) (value rest : List ℕ) → attribute_text n (Some value) ++ rest ≡ lead n ++ quote ∷ (value ++ quote ∷ rest)
 regroup n value rest = simp append_assoc
 
-pieces_read : (n : AttrName) (value rest : List ℕ) → Unquoted value → pieces_of (attribute_text n (Some value) ++ rest) ≡ lead n ∷ value ∷ pieces_of rest
-pieces_read n value rest h = ap pieces_of (regroup n value rest) ∙ piece (lead n) (value ++ quote ∷ rest) (lead_unquoted n) ∙ ap (λ (pieces : List (List ℕ)). lead n ∷ pieces) (piece value rest h)
+pieces_read : (n : AttrName) (value rest : List ℕ) → Unquoted value → quote_pieces (attribute_text n (Some value) ++ rest) ≡ lead n ∷ value ∷ quote_pieces rest
+pieces_read n value rest h = ap quote_pieces (regroup n value rest) ∙ piece (lead n) (value ++ quote ∷ rest) (lead_unquoted n) ∙ ap (λ (pieces : List (List ℕ)). lead n ∷ pieces) (piece value rest h)
 
-attributes_read : (values : AttrName → Option (List ℕ)) → ((n : AttrName) → IfSome (values n) Unquoted) → (place : ℕ) (ns : List AttrName) → attributes_at place (pieces_of (line_of values ns)) ≡ Some (written_from place values ns)
+attributes_read : (values : AttrName → Option (List ℕ)) → ((n : AttrName) → IfSome (values n) Unquoted) → (place : ℕ) (ns : List AttrName) → attributes_at place (quote_pieces (line_of values ns)) ≡ Some (written_from place values ns)
 attributes_read values h place [] = refl
 attributes_read values h place (n ∷ ns) = one values place n ns (values n) (h n) (λ place. attributes_read values h place ns)
   where
     one : (values : AttrName → Option (List ℕ)) (place : ℕ) (n : AttrName) (ns : List AttrName) (o : Option (List ℕ)) → IfSome o Unquoted
-        → ((place : ℕ) → attributes_at place (pieces_of (line_of values ns)) ≡ Some (written_from place values ns))
-        → attributes_at place (pieces_of (attribute_text n o ++ line_of values ns)) ≡ Some (elim o as (λ o. List WrittenAttr) [ None ↦ written_from place values ns | Some value ↦ written_at place n value ∷ written_from (place + length (lead n) + length value + 2) values ns ])
+        → ((place : ℕ) → attributes_at place (quote_pieces (line_of values ns)) ≡ Some (written_from place values ns))
+        → attributes_at place (quote_pieces (attribute_text n o ++ line_of values ns)) ≡ Some (elim o as (λ o. List WrittenAttr) [ None ↦ written_from place values ns | Some value ↦ written_at place n value ∷ written_from (place + length (lead n) + length value + 2) values ns ])
     one values place n ns None h others = others place
     one values place n ns (Some value) h others =
         ap (attributes_at place) (pieces_read n value (line_of values ns) h) ∙ rw (lead_read place value n, others (place + length (lead n) + length value + 2)) refl

@@ -24,7 +24,7 @@ use Rattle.smil_grammar.specs.Clock.{clock_text}
 use Rattle.smil_grammar.specs.Clock.{clock_within}
 use Rattle.smil_grammar.specs.Items.{IsItem}
 use Rattle.smil_grammar.specs.Lists.{list_of, IsList}
-use Rattle.smil_grammar.specs.Values.{id_of, attribute_name_of, restart_default_of, fill_default_of, is_kept, kept_of, dur_of, time_of, repeat_dur_of, count_of, restart_of, fill_of, endsync_of, peers_of, higher_of, lower_of, plain_value_of}
+use Rattle.smil_grammar.specs.Values.{id_of, attribute_name_of, restart_default_of, fill_default_of, is_kept, kept_of, dur_of, time_of, repeat_dur_of, repeat_count_of, restart_of, fill_of, endsync_of, peers_of, higher_of, lower_of, plain_value_of}
 use Rattle.smil_grammar.specs.Spellings.{item_text, list_text, attr_text, dur_text, time_text, decimals, count_text, endsync_text}
 use Rattle.smil_grammar.specs.Allowed.{IsAttr}
 use Rattle.smil_lexis.proofs.Fronts.{Passes, tested, passes_weaker, passes_on}
@@ -100,7 +100,7 @@ decimals_kept r small =
 abbrev CountKept : Count → Type 0
 CountKept c = AreKept (count_text c)
 
-count_kept : (text : List ℕ) → IfSome (count_of text) CountKept
+count_kept : (text : List ℕ) → IfSome (repeat_count_of text) CountKept
 count_kept text = count_reads CountKept (tested is_kept (codes "indefinite") refl) counted text
   where
     counted : (n : ℕ) → IsCount n → CountKept (count.Thousandths n)
@@ -142,7 +142,7 @@ plain_kept in_seq name.Dur text = value attr.Dur DurKept Q (λ d h. h) (dur_of (
 plain_kept in_seq name.End text = listed attr.End (IsList false) Q (read_kept false) (list_of false text) (lists false text _ refl)
 plain_kept in_seq name.Min text = value (λ n. attr.Min (pos n)) IsSmall Q clock_kept (clock_within (trim text)) (clock_small (trim text))
 plain_kept in_seq name.Max text = value attr.Max TimeKept Q (λ t h. h) (time_of (trim text)) (time_kept (trim text))
-plain_kept in_seq name.RepeatCount text = value attr.RepeatCount CountKept Q (λ c h. h) (count_of (trim text)) (count_kept (trim text))
+plain_kept in_seq name.RepeatCount text = value attr.RepeatCount CountKept Q (λ c h. h) (repeat_count_of (trim text)) (count_kept (trim text))
 plain_kept in_seq name.RepeatDur text = value attr.RepeatDur TimeKept Q (λ t h. h) (repeat_dur_of (trim text)) (repeat_kept (trim text))
 plain_kept in_seq name.Restart text = any_value attr.Restart Q (λ r. spelled_kept in_seq (attr.Restart r) (restart_spelled in_seq r)) (restart_of (trim text))
 plain_kept in_seq name.Fill text = any_value attr.Fill Q (λ f. spelled_kept in_seq (attr.Fill f) (fill_spelled in_seq f)) (fill_of (trim text))

@@ -25,7 +25,7 @@ use Rattle.smil_model.specs.declared.times.Time.TheVariants as time
 use Rattle.smil_grammar.specs.Texts.{trim}
 use Rattle.smil_grammar.specs.Clock.{clock_within}
 use Rattle.smil_grammar.specs.Lists.{list_of, IsList}
-use Rattle.smil_grammar.specs.Values.{id_of, attribute_name_of, restart_default_of, fill_default_of, is_kept, kept_of, dur_of, time_of, repeat_dur_of, count_of, restart_of, fill_of, endsync_of, peers_of, higher_of, lower_of, is_other_value, plain_value_of, value_of}
+use Rattle.smil_grammar.specs.Values.{id_of, attribute_name_of, restart_default_of, fill_default_of, is_kept, kept_of, dur_of, time_of, repeat_dur_of, repeat_count_of, restart_of, fill_of, endsync_of, peers_of, higher_of, lower_of, is_other_value, plain_value_of, value_of}
 use Rattle.smil_grammar.specs.Spellings.{attr_text, dur_text, time_text, count_text, act_text}
 use Rattle.smil_grammar.specs.Allowed.{name_of, IsAttr}
 use Rattle.smil_time_list.proofs.Printable.{clock_small}
@@ -69,9 +69,9 @@ repeat_again : (text : List ℕ) → IfSome (repeat_dur_of text) RepeatAgain
 repeat_again text = repeat_reads RepeatAgain refl (λ n h. rw (trimmed n h.small) (repeat_read n h.small h.some)) text
 
 abbrev CountAgain : Count → Type 0
-CountAgain c = count_of (trim (count_text c)) ≡ Some c
+CountAgain c = repeat_count_of (trim (count_text c)) ≡ Some c
 
-count_again : (text : List ℕ) → IfSome (count_of text) CountAgain
+count_again : (text : List ℕ) → IfSome (repeat_count_of text) CountAgain
 count_again text = count_reads CountAgain refl count_read text
 
 -- words
@@ -145,7 +145,7 @@ plain_again in_seq name.Dur text e = value attr.Dur DurAgain (Again in_seq) (λ 
 plain_again in_seq name.End text e = listed attr.End (IsList false) (Again in_seq) (λ items h. rw (list_read false items h) refl) (list_of false text) (lists false text _ refl)
 plain_again in_seq name.Min text e = value (λ n. attr.Min (pos n)) IsSmall (Again in_seq) (min_again in_seq) (clock_within (trim text)) (clock_small (trim text))
 plain_again in_seq name.Max text e = value attr.Max (MaxAgain in_seq) (Again in_seq) (λ t h. h) (time_of (trim text)) (bound_again in_seq (trim text))
-plain_again in_seq name.RepeatCount text e = value attr.RepeatCount CountAgain (Again in_seq) (λ c h. rw h refl) (count_of (trim text)) (count_again (trim text))
+plain_again in_seq name.RepeatCount text e = value attr.RepeatCount CountAgain (Again in_seq) (λ c h. rw h refl) (repeat_count_of (trim text)) (count_again (trim text))
 plain_again in_seq name.RepeatDur text e = value attr.RepeatDur RepeatAgain (Again in_seq) (λ t h. rw h refl) (repeat_dur_of (trim text)) (repeat_again (trim text))
 plain_again in_seq name.Restart text e = any_value attr.Restart (Again in_seq) (λ r. (restart_spelled in_seq r).0) (restart_of (trim text))
 plain_again in_seq name.Fill text e = any_value attr.Fill (Again in_seq) (λ f. (fill_spelled in_seq f).0) (fill_of (trim text))

@@ -1,3 +1,3 @@
 pub mod Reads
 pub mod Remainder
-pub mod Fits
+pub mod Writable

@@ -2,11 +2,11 @@
 use Rattle.std.specs.Prelude.{◌≡◌, ◌<◌, List, [], length, Option, Some, None, unwrap_or, if◌then◌else◌}
 use Rattle.std.specs.List.{list_all}
 use Rattle.smil_grammar.specs.Positions.{Piece}
-use Rattle.smil_grammar.specs.Nodes.{WrittenAttr, is_space, pieces_of, attributes_at, with_written}
+use Rattle.smil_grammar.specs.Nodes.{WrittenAttr, is_space, quote_pieces, attributes_at, with_written}
 
 -- the attributes that are left
 abbrev pub attributes_in : Piece → Option (List WrittenAttr)
-attributes_in left = attributes_at left.place (pieces_of left.text)
+attributes_in left = attributes_at left.place (quote_pieces left.text)
 
 -- the same, where all of what is left has the shape of attributes
 abbrev pub written_in : Piece → List WrittenAttr

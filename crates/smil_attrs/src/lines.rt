@@ -12,6 +12,7 @@ use super::kinds;
 use super::names::NAMES;
 use super::spellings::put_attr;
 use itoa::Buffer;
+use smil_grammar::HEADER;
 use smil_lexis::texts::past;
 use smil_lexis::writers::undone;
 use smil_model::{Attrs, Bytes, Kind, Node};
@@ -118,7 +119,7 @@ pub fn write_header(next: u32, out: &mut Bytes) -> Result<(), AllocError>
     ensures err { OnErr result (out.new ≡ out.old) }
 {
     let before = out.len();
-    let written = put_number(b"outline 2 next ", next, out);
+    let written = put_number(HEADER, next, out);
     undone(written, out, before)
 }
 
@@ -127,8 +128,8 @@ pub fn write_header(next: u32, out: &mut Bytes) -> Result<(), AllocError>
 pub fn read_header(line: &[u8]) -> Option<u32>
     ensures { result ≡ header_of line.now }
 {
-    if !line.starts_with(b"outline 2 next ") {
+    if !line.starts_with(HEADER) {
         return None;
     }
-    count(past(line, 15))
+    count(past(line, HEADER.len()))
 }

@@ -2,7 +2,7 @@
 
 ghost use Rattle.std.specs.Prelude.{◌≡◌, ◌<◌, ◌≤◌, ◌+◌, ◌-◌, ◌^◌, ℕ, Option, List, take, length, option_map, Some, None, IsSome, is_some, bytes_eq, if◌then◌else◌};
 ghost use Rattle.std.specs.List.{prefix_len, list_all, list_any};
-ghost use Rattle.smil_grammar.specs.Nodes.{WrittenAttr as WrittenText, is_no_space, is_of_kind, shaped, shape_of, saved_shape_of, attributes_at, pieces_of, is_named, attribute_at, repeats as repeats_name};
+ghost use Rattle.smil_grammar.specs.Nodes.{WrittenAttr as WrittenText, is_no_space, is_of_kind, shaped, shape_of, saved_shape_of, attributes_at, quote_pieces, is_named, attribute_at, repeats as repeats_name};
 ghost use Rattle.smil_attrs.specs.Remainder.{Passes, attributes_in, written_in};
 
 use smil_lexis::runs;
@@ -182,7 +182,7 @@ impl<'a> Shape<'a> {
     // A kind, and what stands behind it from this place of the line on.
     fn with(kind: &'a [u8], text: &'a [u8], place: usize) -> Option<Shape<'a>>
         requires { place + length text.now < 2 ^ 64 }
-        ensures { result ≡ shaped kind.now (attributes_at place (pieces_of text.now)) }
+        ensures { result ≡ shaped kind.now (attributes_at place (quote_pieces text.now)) }
     {
         let attributes = Attributes { text, place };
         if kind.is_empty() || !is_utf8(kind) || !attributes.is_shaped() {

@@ -5,7 +5,7 @@ ghost use Rattle.smil_grammar.specs.Attributes.{name_text};
 ghost use Rattle.smil_grammar.specs.Texts.{space};
 ghost use Rattle.smil_grammar.specs.Spellings.{dur_text, time_text, decimals, count_text, restart_text, fill_text, restart_default_text, fill_default_text, endsync_text, act_text, list_text, attr_at, value_text, attribute_text, CanWrite};
 ghost use Rattle.smil_model.specs.document.Words.{Begins};
-ghost use Rattle.smil_attrs.specs.Fits.{FitsDur, FitsTime, FitsAttr, FitsValue, spelled};
+ghost use Rattle.smil_attrs.specs.Writable.{CanWriteDur, CanWriteTime, CanWriteAttr, CanWriteValue, spelled};
 
 use super::names;
 use itoa::Buffer;
@@ -104,7 +104,7 @@ fn endsync(endsync: &Endsync) -> &[u8]
 
 // Appends a `dur`.
 fn put_dur(dur: Dur, out: &mut Bytes) -> Result<(), AllocError>
-    requires { FitsDur dur }
+    requires { CanWriteDur dur }
     ensures ok { OnOk result (out.new ≡ out.old ++ dur_text dur) }
     ensures err { OnErr result (out.new ≡ out.old) }
 {
@@ -117,7 +117,7 @@ fn put_dur(dur: Dur, out: &mut Bytes) -> Result<(), AllocError>
 
 // Appends a `max` or a `repeatDur`.
 fn put_time(time: Time, out: &mut Bytes) -> Result<(), AllocError>
-    requires { FitsTime time }
+    requires { CanWriteTime time }
     ensures ok { OnOk result (out.new ≡ out.old ++ time_text time) }
     ensures err { OnErr result (out.new ≡ out.old) }
 {
@@ -176,7 +176,7 @@ fn put_name(name: AttrName, out: &mut Bytes) -> Result<(), AllocError>
 
 // Appends a value.
 fn put_value(value: &Value<'_>, out: &mut Bytes) -> Result<(), AllocError>
-    requires { FitsValue value.now }
+    requires { CanWriteValue value.now }
     ensures ok { OnOk result (out.new ≡ out.old ++ spelled value.now) }
     ensures err { OnErr result (Begins out.old out.new) }
 {
@@ -193,7 +193,7 @@ fn put_value(value: &Value<'_>, out: &mut Bytes) -> Result<(), AllocError>
 // A text that is there, as a value.
 fn text(text: &Option<Bytes>) -> Option<Value<'_>>
     ensures spelled { option_map spelled result ≡ text.now }
-    ensures fits { IfSome result FitsValue }
+    ensures fits { IfSome result CanWriteValue }
 {
     match text {
         Some(text) => Some(Value::Text(text.slice())),
@@ -204,7 +204,7 @@ fn text(text: &Option<Bytes>) -> Option<Value<'_>>
 // A list that is there, as a value.
 fn list(items: &Option<Items>) -> Option<Value<'_>>
     ensures spelled { option_map spelled result ≡ option_map list_text items.now }
-    ensures fits { IfSome items.now (All CanWrite) → IfSome result FitsValue }
+    ensures fits { IfSome items.now (All CanWrite) → IfSome result CanWriteValue }
 {
     match items {
         Some(items) => Some(Value::List(items)),
@@ -214,9 +214,9 @@ fn list(items: &Option<Items>) -> Option<Value<'_>>
 
 // The value of the attribute of this name, where it is there.
 fn value_of(name: AttrName, attrs: &Attrs) -> Option<Value<'_>>
-    requires { IfSome (attr_at attrs.now name) FitsAttr }
+    requires { IfSome (attr_at attrs.now name) CanWriteAttr }
     ensures spelled { option_map spelled result ≡ value_text attrs.now name }
-    ensures fits { IfSome result FitsValue }
+    ensures fits { IfSome result CanWriteValue }
 {
     match name {
         AttrName::Id => text(&attrs.id),
@@ -249,7 +249,7 @@ fn value_of(name: AttrName, attrs: &Attrs) -> Option<Value<'_>>
 /// stays at the front.
 #[tactic(auto, using(smil_model::proofs::Growing::begins_on))]
 pub fn put_attr(name: AttrName, attrs: &Attrs, out: &mut Bytes) -> Result<(), AllocError>
-    requires { IfSome (attr_at attrs.now name) FitsAttr }
+    requires { IfSome (attr_at attrs.now name) CanWriteAttr }
     ensures ok { OnOk result (out.new ≡ out.old
         ++ attribute_text name (value_text attrs.now name)) }
     ensures err { OnErr result (Begins out.old out.new) }

@@ -4,7 +4,7 @@ ghost use Rattle.std.specs.Prelude.{◌≡◌, ◌&&◌, ℕ, Option, List, opti
 ghost use Rattle.std.specs.List.{list_all};
 ghost use Rattle.smil_grammar.specs.Numbers.{with_fraction};
 ghost use Rattle.smil_grammar.specs.Lists.{list_of, is_begin};
-ghost use Rattle.smil_grammar.specs.Values.{restart_of, restart_default_of, fill_default_of, attribute_name_of, peers_of, higher_of, lower_of, fill_of, time_of, repeat_dur_of, dur_of, id_of, kept_of, count_of, endsync_of, short_number_of, thousandths as whole_thousandths, is_kept as is_kept_byte, is_other_value};
+ghost use Rattle.smil_grammar.specs.Values.{restart_of, restart_default_of, fill_default_of, attribute_name_of, peers_of, higher_of, lower_of, fill_of, time_of, repeat_dur_of, dur_of, id_of, kept_of, repeat_count_of, endsync_of, short_number_of, thousandths as whole_thousandths, is_kept as is_kept_byte, is_other_value};
 ghost use Rattle.smil_attrs.specs.Reads.{GivesValue, GivesItems};
 
 use smil_clock_value::clock_within;
@@ -190,7 +190,7 @@ fn thousandths(text: &[u8]) -> Option<u64>
 
 /// A value of `repeatCount`.
 pub fn count(text: &[u8]) -> Option<Count>
-    ensures { result ≡ count_of text.now }
+    ensures { result ≡ repeat_count_of text.now }
 {
     if is(text, b"indefinite") {
         Some(Count::Indefinite)

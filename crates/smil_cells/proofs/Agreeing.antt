@@ -7,9 +7,9 @@ use Rattle.smil_model.specs.declared.document.Node.{Node}
 use Rattle.smil_model.specs.declared.document.Kind.TheVariants as kind
 use Rattle.smil_model.specs.document.Document.{elements, node_at, has_serial}
 use Rattle.smil_model.specs.diary.Diary.{History}
+use Rattle.smil_model.specs.happening.Keys.{coming_by}
 use Rattle.smil_laws.proofs.Locality.{AgreeFor, same_interval, same_simple}
 use Rattle.smil_graph.specs.Graph.{follows_unlooped, IsGraphOrder}
-use Rattle.smil_element.specs.Element.{coming_by}
 use Rattle.smil_cells.specs.declared.plain.current_rows.CurrentRow.{CurrentRow}
 use Rattle.smil_cells.specs.Round.{IsRowOf}
 

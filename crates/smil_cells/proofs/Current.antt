@@ -11,14 +11,14 @@ use Rattle.smil_model.specs.document.Document.{elements, node_at, serials}
 use Rattle.smil_model.specs.document.Closure.{has}
 use Rattle.smil_model.specs.diary.Diary.{History}
 use Rattle.smil_model.specs.interval.Current.{interval_given, simple_of, in_table, table, current_table, current_interval}
-use Rattle.smil_model.specs.happening.Keys.{coming_of}
+use Rattle.smil_model.specs.happening.Keys.{coming_by, coming_of}
 use Rattle.smil_laws.specs.Edited.{IsOrdered}
 use Rattle.smil_laws.proofs.Members.{Differ, none_held}
 use Rattle.smil_laws.proofs.Reached.{from_serials}
 use Rattle.smil_laws.proofs.Settled.{agreeing_all}
 use Rattle.smil_due.specs.Order.{key_cmp}
 use Rattle.smil_graph.specs.Graph.{IsGraphOrder}
-use Rattle.smil_element.specs.Element.{both, coming_by}
+use Rattle.smil_element.specs.Element.{both}
 use Rattle.smil_element.specs.Comings.{HaveDueChanges}
 use Rattle.smil_cells.specs.declared.plain.current_rows.CurrentRow.{CurrentRow}
 use Rattle.smil_cells.specs.Plain.{interval_in, IsCurrent}
@@ -139,20 +139,22 @@ module _ (h : History) (now : ℤ) (order : List ℕ) (rows : List CurrentRow) (
   -- the rows are current, and so is the queue of their keys
   pub all_current : IsCurrent rows (due_in rows) h now
   all_current = record {
-    rows_are =
-        same_tables (elements h.nodes) (map pair_of rows) (current_table h now) (elements_differ h.nodes ordered.distinct)
-        (pair_keys rows ∙ taken.of_elements) (current_keys h now (elements h.nodes) refl)
-        (λ s among. table_in rows s ∙ are_current s);
-    comings_are = comings_are;
+    current = record {
+      rows_are =
+          same_tables (elements h.nodes) (map pair_of rows) (current_table h now) (elements_differ h.nodes ordered.distinct)
+          (pair_keys rows ∙ taken.of_elements) (current_keys h now (elements h.nodes) refl)
+          (λ s among. table_in rows s ∙ are_current s);
+      comings_are = comings_are;
+    };
     due_is = due_come h now (elements h.nodes) rows comings_are;
   }
 
 -- the rows of a current table are of the elements, and have the current intervals
 pub current_intervals : (h : History) (now : ℤ) (rows : List CurrentRow) (due : set.FinSet key_cmp) → IsCurrent rows due h now → (s : ℕ) → interval_in rows s ≡ current_interval h now s
-current_intervals h now rows due is s = sym (table_in rows s) ∙ ap (λ xs. in_table xs s) is.rows_are
+current_intervals h now rows due is s = sym (table_in rows s) ∙ ap (λ xs. in_table xs s) is.current.rows_are
 
 pub current_elements : (h : History) (now : ℤ) (rows : List CurrentRow) (due : set.FinSet key_cmp) → IsCurrent rows due h now → serials_in rows ≡ serials (elements h.nodes)
-current_elements h now rows due is = sym (pair_keys rows) ∙ ap keys_in is.rows_are ∙ current_keys h now (elements h.nodes) refl
+current_elements h now rows due is = sym (pair_keys rows) ∙ ap keys_in is.current.rows_are ∙ current_keys h now (elements h.nodes) refl
 
 -- ---- an order
 

@@ -135,15 +135,15 @@ module _ (h : History) (now : ℤ) (J : ℕ → Option Interval) (place : ℕ) (
   repeat_at_one simple Indefinite = tt
   repeat_at_one simple Unresolved = tt
 
-  repeat_one : IsOne place true (coming_repeat h J now place e)
+  repeat_one : IsOne place true (coming_repeat h (simple_of h J e) now place e)
   repeat_one =
       one_of place true ((is_some e.attrs.repeat_count || is_some e.attrs.repeat_dur) && not (stands h e.serial))
       (coming_repeat_at h now place e (simple_of h J e) (later_time (simple_of h J e) (iteration_start h e.serial))) []
       (repeat_at_one (simple_of h J e) (later_time (simple_of h J e) (iteration_start h e.serial))) tt
 
-  placed_by : (t : Bool) → IsPlaced place (cond t (cond (outer_stands h e.serial) [] (coming_end h now place e (J e.serial)) ++ coming_repeat h J now place e) (cond (outer_stands h e.serial) [] (coming_begin h now place e (J e.serial))))
+  placed_by : (t : Bool) → IsPlaced place (cond t (cond (outer_stands h e.serial) [] (coming_end h now place e (J e.serial)) ++ coming_repeat h (simple_of h J e) now place e) (cond (outer_stands h e.serial) [] (coming_begin h now place e (J e.serial))))
   placed_by true =
-      both_placed place (cond (outer_stands h e.serial) [] (coming_end h now place e (J e.serial))) (coming_repeat h J now place e)
+      both_placed place (cond (outer_stands h e.serial) [] (coming_end h now place e (J e.serial))) (coming_repeat h (simple_of h J e) now place e)
       (one_of place false (outer_stands h e.serial) [] (coming_end h now place e (J e.serial)) tt (end_one (J e.serial))) repeat_one
   placed_by false =
       one_placed place false (cond (outer_stands h e.serial) [] (coming_begin h now place e (J e.serial)))
@@ -211,7 +211,7 @@ first_by_key h now rows due key chosen is least by_row =
     let at = in_from h now (current_interval h now) 0 (elements h.nodes) c (first_in (coming h now) c found.1) in
     let place : at.0 ≡ at.1 = place_is at.0 at.1 at.3 in
     let row = row_at (elements h.nodes) rows at.0 at.2 (current_elements h now rows due is) at.4 in
-    let comes = comings_at h now 0 (elements h.nodes) rows at.0 at.1 at.2 row.0 is.comings_are at.3 at.4 row.1 in
+    let comes = comings_at h now 0 (elements h.nodes) rows at.0 at.1 at.2 row.0 is.current.comings_are at.3 at.4 row.1 in
     let placed_there = placed h now (current_interval h now) at.1 at.2 in
     let position : key.position ≡ at.0 = ap (λ (k : Key). k.position) (sym found.2) ∙ placed_there.at c at.5 ∙ sym place in
     chosen_is key row.0.comings.moved row.0.comings.repeat chosen at.1 (coming_of h (current_interval h now) now at.1 at.2) c comes placed_there

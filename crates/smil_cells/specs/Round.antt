@@ -8,9 +8,10 @@ use Rattle.smil_model.specs.document.Document.{elements, serials}
 use Rattle.smil_model.specs.document.Closure.{has}
 use Rattle.smil_model.specs.diary.Diary.{History}
 use Rattle.smil_model.specs.interval.Current.{interval_given, simple_of}
+use Rattle.smil_model.specs.happening.Keys.{coming_by}
 use Rattle.smil_due.specs.Order.{key_cmp}
 use Rattle.smil_element.specs.declared.happening.change.DueChange.{DueChange}
-use Rattle.smil_element.specs.Element.{both, coming_by}
+use Rattle.smil_element.specs.Element.{both}
 use Rattle.smil_cells.specs.declared.plain.current_rows.CurrentRow.{CurrentRow}
 use Rattle.smil_cells.specs.Plain.{interval_in}
 

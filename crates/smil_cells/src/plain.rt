@@ -13,6 +13,7 @@ use super::table::{Since, Table};
 use current_rows::{CurrentRow, CurrentRows, IndexedElement, row_of};
 use smil_due::DueQueue;
 use smil_element::{DueChange, Intervals, Present, Room};
+use smil_interval::is_same_interval;
 use smil_model::{Duplicate, Interval, Serials, Steps};
 use smil_past::Past;
 use std::alloc::{AllocError, Global};
@@ -204,19 +205,12 @@ impl PlainTable {
             index,
         };
         let row = row_of(&element, &self.known, &mut self.room, steps)?;
-        if !is_same(self.known.interval(who), row.interval) {
+        if !is_same_interval(self.known.interval(who), row.interval) {
             changed.push(who)?;
         }
         self.known.put(index, row);
         Ok(())
     }
-}
-
-// Whether two intervals, which may be absent, are the same.
-fn is_same(a: Option<Interval>, b: Option<Interval>) -> bool
-    ensures { result ≡ true → a ≡ b }
-{
-    a == b
 }
 
 // The keys of what comes of the elements that have these rows.

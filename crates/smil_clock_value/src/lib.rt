@@ -11,15 +11,12 @@ ghost use Rattle.smil_lexis.specs.Capped.{capped};
 
 use itoa::Buffer;
 pub use smil_grammar::ClockFault;
-use smil_grammar::{BILLION, HOUR, MINUTE, SECOND};
+use smil_grammar::{BILLION, HOUR, MINUTE, SECOND, TENTH};
 use smil_lexis::numbers::{CAP, decimal, seconds, sixty, whole};
 use smil_lexis::texts::cut;
 use smil_lexis::writers::undone;
 use smil_model::Bytes;
 use std::alloc::AllocError;
-
-// A tenth, in billionths.
-const TENTH: u64 = 100_000_000;
 
 // Whole milliseconds of a number with its billionths.
 fn milliseconds(unit: u64, number: u64, billionths: u64) -> u64
@@ -120,7 +117,8 @@ pub fn clock_within(bytes: &[u8]) -> Option<i64>
     read_clock(bytes).ok()
 }
 
-/// Appends the printed spelling of a clock value. After a refusal `out` is as before.
+/// Appends the printed spelling of a clock value, a number of milliseconds from 0 to 10^12. After a
+/// refusal `out` is as before.
 pub fn write_clock(value: i64, out: &mut Bytes) -> Result<(), AllocError>
     requires { IsMoment value }
     ensures ok { OnOk result (out.new ≡ out.old ++ clock_text (nat_abs value)) }

@@ -10,28 +10,28 @@ use Rattle.std.proofs.Math.Seq.{take-append_seam}
 use Rattle.std.proofs.lemmas.Bool.{ltb-true}
 use Rattle.smil_model.specs.declared.diary.Entry.{Entry}
 use Rattle.smil_model.specs.diary.Diary.{last_place, later_place, with_past}
-use Rattle.smil_diary.specs.ElementPlaces.{places_from, led, grown, but_last}
+use Rattle.smil_diary.specs.ElementPlaces.{places_from, with_place_first, grown, but_last}
 use Rattle.smil_diary.proofs.Rising.{count-cons}
 
 -- ---- one more element at the end
 
-led-grown : (a b : Bool) (p q : ℕ) (ps : List ℕ) → led a p (grown b q ps) ≡ grown b q (led a p ps)
-led-grown true true p q ps = refl
-led-grown true false p q ps = refl
-led-grown false true p q ps = refl
-led-grown false false p q ps = refl
+first-grown : (a b : Bool) (p q : ℕ) (ps : List ℕ) → with_place_first a p (grown b q ps) ≡ grown b q (with_place_first a p ps)
+first-grown true true p q ps = refl
+first-grown true false p q ps = refl
+first-grown false true p q ps = refl
+first-grown false false p q ps = refl
 
-led-none : (a : Bool) (p q : ℕ) → p ≡ q → led a p [] ≡ grown a q []
-led-none true p q same = ap (λ k. k ∷ []) same
-led-none false p q same = refl
+first-none : (a : Bool) (p q : ℕ) → p ≡ q → with_place_first a p [] ≡ grown a q []
+first-none true p q same = ap (λ k. k ∷ []) same
+first-none false p q same = refl
 
 places_from-push : {A : Type 0} (from end' : ℕ) (test : A → Bool) (xs : List A) (x : A) → end' ≡ from + length xs
     → places_from from test (xs ++ x ∷ []) ≡ grown (test x) end' (places_from from test xs)
 unfolding places_from
-places_from-push from end' test [] x is = led-none (test x) from end' (omega arith)
+places_from-push from end' test [] x is = first-none (test x) from end' (omega arith)
 places_from-push from end' test (y ∷ ys) x is =
-    ap (λ ps. led (test y) from ps) (places_from-push (suc from) end' test ys x (omega arith))
-    ∙ led-grown (test y) (test x) from end' (places_from (suc from) test ys)
+    ap (λ ps. with_place_first (test y) from ps) (places_from-push (suc from) end' test ys x (omega arith))
+    ∙ first-grown (test y) (test x) from end' (places_from (suc from) test ys)
 
 pub places-push : {A : Type 0} (test : A → Bool) (xs : List A) (x : A)
     → places_from 0 test (xs ++ x ∷ []) ≡ grown (test x) (length xs) (places_from 0 test xs)
@@ -68,18 +68,18 @@ unfolding moved
 moved-here from None before = let same : from ≡ from + 0 = omega arith in ap (λ (n : ℕ). Some n) same
 moved-here from (Some k) before = let same : suc from + k ≡ from + suc k = omega arith in ap (λ (n : ℕ). Some n) same
 
-last-led : (t : Bool) (from : ℕ) (ps : List ℕ) (o before : Option ℕ)
+last-with_place_first : (t : Bool) (from : ℕ) (ps : List ℕ) (o before : Option ℕ)
     → ((b : Option ℕ) → last_or b ps ≡ moved (suc from) o b)
-    → last_or before (led t from ps) ≡ moved from (later_place t o) before
-last-led true from ps o before is = is (Some from) ∙ moved-here from o before
-last-led false from ps o before is = is before ∙ moved-next from o before
+    → last_or before (with_place_first t from ps) ≡ moved from (later_place t o) before
+last-with_place_first true from ps o before is = is (Some from) ∙ moved-here from o before
+last-with_place_first false from ps o before is = is before ∙ moved-next from o before
 
 last-places_from : {A : Type 0} (from : ℕ) (test : A → Bool) (xs : List A) (before : Option ℕ)
     → last_or before (places_from from test xs) ≡ moved from (last_place test xs) before
 unfolding places_from moved
 last-places_from from test [] before = refl
 last-places_from from test (x ∷ xs) before =
-    last-led (test x) from (places_from (suc from) test xs) (last_place test xs) before (last-places_from (suc from) test xs)
+    last-with_place_first (test x) from (places_from (suc from) test xs) (last_place test xs) before (last-places_from (suc from) test xs)
 
 not-moved : (o : Option ℕ) → moved 0 o None ≡ o
 unfolding moved
@@ -91,9 +91,9 @@ last-places test xs = last-places_from 0 test xs None ∙ not-moved (last_place 
 
 -- ---- the first place
 
-first-led : (t : Bool) (from : ℕ) (ps : List ℕ) (o : Option ℕ) → slice_get ps 0 ≡ o → slice_get (led t from ps) 0 ≡ cond t (Some from) o
-first-led true from ps o is = refl
-first-led false from ps o is = is
+first-with_place_first : (t : Bool) (from : ℕ) (ps : List ℕ) (o : Option ℕ) → slice_get ps 0 ≡ o → slice_get (with_place_first t from ps) 0 ≡ cond t (Some from) o
+first-with_place_first true from ps o is = refl
+first-with_place_first false from ps o is = is
 
 first-places_from : {A : Type 0} (from : ℕ) (test : A → Bool) (xs : List A)
     → slice_get (places_from from test xs) 0 ≡ position_from test from xs
@@ -101,7 +101,7 @@ unfolding places_from
 first-places_from from test [] = refl
 first-places_from from test (x ∷ xs) =
     let next : suc from ≡ from + 1 = omega arith in
-    first-led (test x) from (places_from (suc from) test xs) (position_from test (from + 1) xs)
+    first-with_place_first (test x) from (places_from (suc from) test xs) (position_from test (from + 1) xs)
     (first-places_from (suc from) test xs ∙ ap (λ n. position_from test n xs) next)
 
 pub first-places : {A : Type 0} (test : A → Bool) (xs : List A) → slice_get (places_from 0 test xs) 0 ≡ position test xs
@@ -124,51 +124,51 @@ Above b ps = (k : ℕ) → k < length ps → b ≤ get_or ps k 0
 Rises : List ℕ → Type 0
 Rises ps = (i j : ℕ) → i ≤ j → j < length ps → get_or ps i 0 ≤ get_or ps j 0
 
-above-led : (t : Bool) (b p : ℕ) (ps : List ℕ) → b ≤ p → Above b ps → Above b (led t p ps)
+above-with_place_first : (t : Bool) (b p : ℕ) (ps : List ℕ) → b ≤ p → Above b ps → Above b (with_place_first t p ps)
 unfolding Above
-above-led true b p ps le above zero lt = le
-above-led true b p ps le above (suc k) lt = above k (omega arith)
-above-led false b p ps le above k lt = above k lt
+above-with_place_first true b p ps le above zero lt = le
+above-with_place_first true b p ps le above (suc k) lt = above k (omega arith)
+above-with_place_first false b p ps le above k lt = above k lt
 
 above-places : {A : Type 0} (b from : ℕ) (test : A → Bool) (xs : List A) → b ≤ from → Above b (places_from from test xs)
 unfolding Above places_from
 above-places b from test [] le k lt = absurd (omega arith)
 above-places b from test (x ∷ xs) le k lt =
-    above-led (test x) b from (places_from (suc from) test xs) le (above-places b (suc from) test xs (omega arith)) k lt
+    above-with_place_first (test x) b from (places_from (suc from) test xs) le (above-places b (suc from) test xs (omega arith)) k lt
 
-rises-led : (t : Bool) (p : ℕ) (ps : List ℕ) → Above p ps → Rises ps → Rises (led t p ps)
+rises-with_place_first : (t : Bool) (p : ℕ) (ps : List ℕ) → Above p ps → Rises ps → Rises (with_place_first t p ps)
 unfolding Above Rises
-rises-led true p ps above rises zero zero le lt = omega arith
-rises-led true p ps above rises zero (suc j) le lt = above j (omega arith)
-rises-led true p ps above rises (suc i) zero le lt = absurd (omega arith)
-rises-led true p ps above rises (suc i) (suc j) le lt = rises i j (omega arith) (omega arith)
-rises-led false p ps above rises i j le lt = rises i j le lt
+rises-with_place_first true p ps above rises zero zero le lt = omega arith
+rises-with_place_first true p ps above rises zero (suc j) le lt = above j (omega arith)
+rises-with_place_first true p ps above rises (suc i) zero le lt = absurd (omega arith)
+rises-with_place_first true p ps above rises (suc i) (suc j) le lt = rises i j (omega arith) (omega arith)
+rises-with_place_first false p ps above rises i j le lt = rises i j le lt
 
 rises-places : {A : Type 0} (from : ℕ) (test : A → Bool) (xs : List A) → Rises (places_from from test xs)
 unfolding Rises places_from
 rises-places from test [] i j le lt = absurd (omega arith)
 rises-places from test (x ∷ xs) i j le lt =
-    rises-led (test x) from (places_from (suc from) test xs)
+    rises-with_place_first (test x) from (places_from (suc from) test xs)
     (above-places from (suc from) test xs (omega arith)) (rises-places (suc from) test xs) i j le lt
 
 pub places-rise : {A : Type 0} (test : A → Bool) (xs : List A) → IsNonDecreasing (places_from 0 test xs)
 unfolding Rises
 places-rise test xs = IsNonDecreasingBy-from_default (λ x. x) (places_from 0 test xs) 0 (rises-places 0 test xs)
 
-length-led : (t : Bool) (p : ℕ) (ps : List ℕ) (n : ℕ) → length ps ≤ n → length (led t p ps) ≤ suc n
-length-led true p ps n le = omega arith
-length-led false p ps n le = omega arith
+length-with_place_first : (t : Bool) (p : ℕ) (ps : List ℕ) (n : ℕ) → length ps ≤ n → length (with_place_first t p ps) ≤ suc n
+length-with_place_first true p ps n le = omega arith
+length-with_place_first false p ps n le = omega arith
 
 pub length-places : {A : Type 0} (from : ℕ) (test : A → Bool) (xs : List A) → length (places_from from test xs) ≤ length xs
 unfolding places_from
 length-places from test [] = omega arith
 length-places from test (x ∷ xs) =
-    length-led (test x) from (places_from (suc from) test xs) (length xs) (length-places (suc from) test xs)
+    length-with_place_first (test x) from (places_from (suc from) test xs) (length xs) (length-places (suc from) test xs)
 
 -- ---- how many there are from a place on
 
 count-led_above : (t : Bool) (b p : ℕ) (ps : List ℕ) (n : ℕ) → b ≤ p → count_by (nat_le b) ps ≡ n
-    → count_by (nat_le b) (led t p ps) ≡ cond t 1 0 + n
+    → count_by (nat_le b) (with_place_first t p ps) ≡ cond t 1 0 + n
 count-led_above true b p ps n le is =
     let passes : nat_le b p ≡ true = grind arith in
     count-cons (nat_le b) p ps ∙ ap (λ t. cond t 1 0 + count_by (nat_le b) ps) passes ∙ ap (λ k. 1 + k) is
@@ -183,7 +183,7 @@ count-places_above b from test (x ∷ xs) le =
     (count-places_above b (suc from) test xs (omega arith))
     ∙ sym (count-cons test x xs)
 
-count-led_below : (t : Bool) (b p : ℕ) (ps : List ℕ) → p < b → count_by (nat_le b) (led t p ps) ≡ count_by (nat_le b) ps
+count-led_below : (t : Bool) (b p : ℕ) (ps : List ℕ) → p < b → count_by (nat_le b) (with_place_first t p ps) ≡ count_by (nat_le b) ps
 count-led_below true b p ps lt =
     let fails : nat_le b p ≡ false = grind arith in
     count-cons (nat_le b) p ps ∙ ap (λ t. cond t 1 0 + count_by (nat_le b) ps) fails ∙ omega arith

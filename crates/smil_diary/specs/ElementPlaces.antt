@@ -144,14 +144,16 @@ forgotten_at who k serial e = if who == serial then forgotten k e else e
 
 -- ---- of a diary
 
--- the places, counted from `from`, of those that pass
-abbrev pub led : Bool → ℕ → List ℕ → List ℕ
-led true p ps = p ∷ ps
-led false p ps = ps
+-- places with one before them, where it passes
+abbrev pub with_place_first : Bool → ℕ → List ℕ → List ℕ
+with_place_first true p ps = p ∷ ps
+with_place_first false p ps = ps
 
+-- the places, counted from `from`, of those that pass
 unfoldable pub places_from : {A : Type 0} → ℕ → (A → Bool) → List A → List ℕ
 places_from from test [] = []
-places_from from test (x ∷ xs) = led (test x) from (places_from (suc from) test xs)
+places_from from test (x ∷ xs) =
+    with_place_first (test x) from (places_from (suc from) test xs)
 
 -- the places of the steps of this kind on this element
 abbrev pub steps : List Entry → StepKind → ℕ → List ℕ

@@ -7,6 +7,7 @@ use Rattle.std.specs.Cmp.{tied_itself}
 use Rattle.std.specs.FinSet.{IsAntisymmetric, nat_cmp-IsAntisymmetric, int_cmp-IsAntisymmetric}
 use Rattle.std.proofs.lemmas.Bool.Decides.{nat_tests}
 use Rattle.std.proofs.lemmas.Int.{ints}
+use Rattle.smil_model.specs.declared.happening.TheConstants.{BEGIN_CLASS}
 use Rattle.smil_model.specs.declared.happening.Key.{Key}
 use Rattle.smil_model.specs.happening.Keys.{comes_before}
 use Rattle.smil_due.specs.Order.{turn, happening_cmp, key_cmp, happening_cmp_total}
@@ -57,11 +58,11 @@ alike_from_tie a b e =
     let moment_class = tie_first _ (int_cmp (turn a) (turn b)) moment_class_turn in
     let class : a.class ≡ b.class = nat_cmp-IsAntisymmetric a.class b.class (tie_second _ _ moment_class) in
     let turns : turn a ≡ turn b = int_cmp-IsAntisymmetric (turn a) (turn b) (tie_second _ _ moment_class_turn) in
-    let same_class : turn a ≡ (if b.class == 2 then pos a.position else neg_ℤ (pos a.position)) = ap (λ (class : ℕ). if class == 2 then pos a.position else neg_ℤ (pos a.position)) class in
+    let same_class : turn a ≡ (if b.class == BEGIN_CLASS then pos a.position else neg_ℤ (pos a.position)) = ap (λ (class : ℕ). if class == BEGIN_CLASS then pos a.position else neg_ℤ (pos a.position)) class in
     record {
       value = int_cmp-IsAntisymmetric a.value b.value (tie_first _ (nat_cmp a.class b.class) moment_class);
       class = class;
-      position = turn_same (b.class == 2) a.position b.position (sym same_class ∙ turns);
+      position = turn_same (b.class == BEGIN_CLASS) a.position b.position (sym same_class ∙ turns);
       repeat = bool_tie a.repeat b.repeat (tie_second _ _ e);
     }
 

@@ -61,7 +61,7 @@ module _ (f : ℕ → ℕ) where
     repeat_at_has simple Indefinite = none
     repeat_at_has simple Unresolved = none
 
-    repeat_has : All Has (coming_repeat h intervals now place e)
+    repeat_has : All Has (coming_repeat h (simple_of h intervals e) now place e)
     repeat_has =
         let simple = simple_of h intervals e in
         let over = later_time simple (iteration_start h e.serial) in
@@ -73,7 +73,7 @@ module _ (f : ℕ → ℕ) where
         let stand = outer_stands h e.serial in
         let i = intervals e.serial in
         let ends = cond stand [] (coming_end h now place e i) in
-        let more = coming_repeat h intervals now place e in
+        let more = coming_repeat h (simple_of h intervals e) now place e in
         let begins = cond stand [] (coming_begin h now place e i) in
         choice (is_active h.diary e.serial) (ends ++ more) begins
         (All-append Has ends more (choice stand [] (coming_end h now place e i) none (end_has i)) repeat_has)

@@ -3,11 +3,13 @@ use Rattle.std.specs.Prelude.{ℤ, pos, neg_ℤ, ◌==◌, if◌then◌else◌}
 use Rattle.std.specs.declared.cmp.Ordering.{Ordering}
 use Rattle.std.specs.Ordering.{nat_cmp, int_cmp, bool_cmp, on, then_cmp}
 use Rattle.std.specs.Cmp.{IsTotalOrder, on_total, then_total, int_cmp_total, nat_cmp_total, bool_cmp_total}
+use Rattle.smil_model.specs.declared.happening.TheConstants.{BEGIN_CLASS}
 use Rattle.smil_model.specs.declared.happening.Key.{Key}
 
 -- the turn of a begin rises with its place in the document, and that of all others falls
 abbrev pub turn : Key → ℤ
-turn key = if key.class == 2 then pos key.position else neg_ℤ (pos key.position)
+turn key =
+    if key.class == BEGIN_CLASS then pos key.position else neg_ℤ (pos key.position)
 
 -- by moment, by class, by turn, an end before a repeat
 abbrev pub happening_cmp : Key → Key → Ordering

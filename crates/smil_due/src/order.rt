@@ -5,11 +5,8 @@ ghost use Rattle.smil_model.specs.happening.Keys;
 ghost use Rattle.smil_due.specs.Order;
 ghost use Rattle.smil_due.specs.Order.{happening_cmp};
 
-use smil_model::Key;
+use smil_model::{BEGIN_CLASS, Key};
 use std::cmp::Ordering;
-
-// The class of a begin.
-const BEGIN: u8 = 2;
 
 /// Whether the first key happens before the second: by moment, then by class, then by place. Among
 /// keys of one moment and class the begins earlier in the document are first and of all others the
@@ -37,5 +34,9 @@ fn turn(key: Key) -> i64
     ensures { result ≡ Order.turn key }
 {
     let place = i64::from(key.position);
-    if key.class == BEGIN { place } else { -place }
+    if key.class == BEGIN_CLASS {
+        place
+    } else {
+        -place
+    }
 }

@@ -8,8 +8,7 @@ ghost use Rattle.smil_model.specs.interval.Durations.{bounds_of, intermediate_du
 ghost use Rattle.smil_model.specs.interval.Intervals.{bounds_in};
 ghost use Rattle.smil_model.specs.document.Defaults.{min_of, max_of};
 
-use super::sums::{capped, moved};
-use smil_model::{Attrs, Count, Facts, Play, Time, greatest, later, least};
+use smil_model::{Attrs, Count, Facts, Play, Time, capped, greatest, later, least, moved};
 use std::marker::Model;
 
 /// What limits a play: the attributes `repeatCount`, `repeatDur`, `min` and `max`, with what an
@@ -79,8 +78,9 @@ impl Bounds {
         self.max
     }
 
-    /// The intermediate active duration: the least of the repeat count's and the repeat duration's,
-    /// and the simple duration where neither is given.
+    /// The intermediate active duration, in milliseconds: the least of the repeat count's and the
+    /// repeat duration's, and the simple duration where neither is given. SMIL 3.0, "Computing the
+    /// active duration".
     pub fn intermediate(&self, simple: Time) -> Time
         ensures { result ≡ intermediate_duration self.now simple }
     {
@@ -95,14 +95,16 @@ impl Bounds {
         }
     }
 
-    /// The active duration: the intermediate one, between `min` and `max`.
+    /// The active duration, in milliseconds: the intermediate one, between `min` and `max`. SMIL
+    /// 3.0, "Computing the active duration".
     pub fn active(&self, simple: Time) -> Time
         ensures { result ≡ active_duration self.now simple }
     {
         self.within(0, self.intermediate(simple))
     }
 
-    /// The active end of a play, on the element's own clock.
+    /// The active end of a play, in milliseconds on the element's own clock. SMIL 3.0, "Computing
+    /// the active duration".
     pub fn active_end(&self, simple: Time, play: &Play) -> Time
         ensures { result ≡ Durations.active_end self.now simple play.now.first play.now.start
             play.now.iteration }
@@ -110,9 +112,9 @@ impl Bounds {
         self.within(play.first, self.intermediate_end(simple, play))
     }
 
-    /// Where the iterations or the repeat duration of a play end, whichever is first, on the
-    /// element's own clock; `min` and `max` are left aside. A simple duration of 0 ends where the
-    /// present iteration starts.
+    /// Where the iterations or the repeat duration of a play end, whichever is first, in
+    /// milliseconds on the element's own clock; `min` and `max` are left aside. A simple duration
+    /// of 0 ends where the present iteration starts. SMIL 3.0, "Computing the active duration".
     pub fn intermediate_end(&self, simple: Time, play: &Play) -> Time
         ensures { result ≡ intermediate_end self.now simple play.now.first play.now.start
             play.now.iteration }

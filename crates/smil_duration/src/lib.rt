@@ -12,12 +12,10 @@ ghost use Rattle.smil_model.specs.document.Defaults.{takes_implicit};
 ghost use Rattle.smil_model.specs.interval.Durations;
 
 pub mod bounds;
-pub mod sums;
 
 pub use bounds::Bounds;
 pub use smil_model::Play;
 use smil_model::{Attrs, Dur, Kind, Time};
-pub use sums::{capped, moved};
 
 /// The simple duration of an element, in milliseconds on its own clock: what `dur` states, or the
 /// implicit duration. Without `dur` it is the implicit duration, unless the element has an `end`
@@ -53,8 +51,8 @@ pub fn takes_implicit(attrs: &Attrs) -> bool
 
 /// The implicit duration of an element whose kind alone tells it: 0 for still media, indefinite for
 /// a `set`. None for a container, whose time children tell it, for continuous media, whose length a
-/// player tells, and for a `priorityClass`. SMIL 3.0, "Defining the simple duration"; for a `set`,
-/// "The set element".
+/// player tells, and for a `priorityClass`. SMIL 3.0, "Defining the simple duration"; that of a `set`
+/// is this project's reading.
 pub fn implicit_by_kind(kind: Kind) -> Option<Time>
     ensures told { (h : History) (intervals : ℕ → Option AnyInterval) (e : AnyNode)
         → IfSome result (λ length. implicit_of h intervals e kind ≡ length) }

@@ -10,7 +10,7 @@ use Rattle.smil_model.specs.declared.interval.ChildEnd.{ChildEnd}
 use Rattle.smil_model.specs.declared.document.Node.{Node}
 use Rattle.smil_model.specs.declared.document.Endsync.{Endsync}
 use Rattle.smil_model.specs.declared.document.Kind.{Kind}
-use Rattle.smil_model.specs.declared.document.Kind.TheVariants.{Par, Seq, Excl, PriorityClass, Audio, Video, Animation, TextStream, Ref, Img, Text, Brush, Set}
+use Rattle.smil_model.specs.declared.document.Kind.TheVariants.{Par, Seq, Excl, PriorityClass, Audio, Video, Animation, TextStream, Ref}
 use Rattle.smil_model.specs.document.Document.{is_class_kind, is_container_kind, is_continuous, time_children}
 use Rattle.smil_model.specs.document.Defaults.{endsync_of}
 use Rattle.smil_model.specs.diary.Diary.{History, is_active, is_deferred}
@@ -81,10 +81,7 @@ module _ (h : History) (intervals : ℕ → Option Interval) (e : Node) where
   media_told Animation container known = refl
   media_told TextStream container known = refl
   media_told Ref container known = refl
-  media_told Img container known = absurd (cc)
-  media_told Text container known = absurd (cc)
-  media_told Brush container known = absurd (cc)
-  media_told Set container known = absurd (cc)
+  media_told _ container known = absurd (cc)
 
 -- ---- the last time child of a seq decides
 

@@ -8,8 +8,8 @@ use Rattle.smil_model.specs.declared.diary.Step.{Step}
 use Rattle.smil_model.specs.declared.diary.Step.TheVariants.{Cut}
 use Rattle.smil_model.specs.declared.document.Node.{Node}
 use Rattle.smil_model.specs.diary.Diary.{is_active}
-use Rattle.smil_model.specs.happening.Groups.{at_moment}
-use Rattle.smil_element.specs.Parts.{cut_of, cut_steps}
+use Rattle.smil_model.specs.happening.Groups.{at_moment, cut_steps}
+use Rattle.smil_element.specs.Parts.{cut_of}
 use Rattle.smil_laws.proofs.Through.{at_append}
 
 -- ---- entries at a moment

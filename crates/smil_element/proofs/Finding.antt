@@ -7,8 +7,8 @@ use Rattle.smil_model.specs.declared.document.Node.{Node}
 use Rattle.smil_model.specs.declared.diary.Entry.{Entry}
 use Rattle.smil_model.specs.document.Document.{has_serial, is_excl_kind, is_time_child, node_at, serial_of, serials, time_children}
 use Rattle.smil_model.specs.diary.Diary.{History}
-use Rattle.smil_model.specs.happening.Queue.{is_playing, playing_child}
-use Rattle.smil_element.specs.Parts.{excl_in, left_excl, rival, is_playing_by}
+use Rattle.smil_model.specs.happening.Queue.{is_playing, is_playing_by, playing_child}
+use Rattle.smil_element.specs.Parts.{excl_in, left_excl, rival}
 use Rattle.smil_model.specs.reach.Reach.{is_option}
 use Rattle.smil_laws.proofs.Lineages.{is_option-serial_of}
 

@@ -9,9 +9,9 @@ use Rattle.smil_model.specs.declared.document.Node.{Node}
 use Rattle.smil_model.specs.document.Document.{descendants, has_serial, is_excl_kind, serial_of}
 use Rattle.smil_model.specs.diary.Diary.{History, is_paused}
 use Rattle.smil_model.specs.diary.Clocks.{outer}
-use Rattle.smil_model.specs.happening.Groups.{begin_beside, begin_under, cuts, follower, followers, interruption}
+use Rattle.smil_model.specs.happening.Groups.{begin_beside, begin_under, cut_steps, cuts, follower, followers, interruption}
 use Rattle.smil_model.specs.happening.Queue.{decision, playing_child, queue_of}
-use Rattle.smil_element.specs.Parts.{ArePartsOf, cut_steps, cuts_below, left_excl, next_of, rival}
+use Rattle.smil_element.specs.Parts.{ArePartsOf, cuts_below, left_excl, next_of, rival}
 use Rattle.smil_element.specs.declared.happening.parts.Parts.{Parts}
 
 pub cuts_are : (parts : Parts) (h : History) (who : ℕ) → ArePartsOf parts h → cuts_below parts who ≡ cuts h who

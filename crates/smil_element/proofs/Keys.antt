@@ -11,9 +11,9 @@ use Rattle.smil_model.specs.Times.{later_time, time_le}
 use Rattle.smil_model.specs.interval.Durations.{Bounds, bounds_of, intermediate_end}
 use Rattle.smil_model.specs.diary.Diary.{History, is_active, iteration}
 use Rattle.smil_model.specs.diary.Clocks.{run, to_document, stands, outer_stands, iteration_start, play_start}
-use Rattle.smil_model.specs.happening.Keys.{Change, DueChange, ends, repeats, is_repeating, coming_at, coming_begin, coming_end, coming_end_at, coming_repeat_at}
+use Rattle.smil_model.specs.happening.Keys.{Change, DueChange, ends, repeats, is_repeating, coming_at, coming_begin, coming_end, coming_end_at, coming_repeat_at, coming_by, coming_repeat}
 use Rattle.smil_element.specs.declared.happening.change.DueChange.{DueChange as Moved}
-use Rattle.smil_element.specs.Element.{and_coming, both, coming_by, goes_on, moved_by, repeat_by}
+use Rattle.smil_element.specs.Element.{and_coming, both, goes_on, moved_by}
 
 abbrev pub keyed : ℤ → ℕ → ℕ → ℕ → Change → DueChange
 keyed value class place s change = record {
@@ -40,7 +40,7 @@ module _ (h : History) (who : ℕ) (e : Node) (same : e.serial ≡ who) where
   abbrev may : ℕ → Bool
   may k = (is_some e.attrs.repeat_count || is_some e.attrs.repeat_dur) && not (stands h k)
 
-  pub repeat_is : (simple : Time) (now : ℤ) (place : ℕ) (t : Bool) (cs : List DueChange) → t ≡ may who → cs ≡ cond t (repeat_at simple now place who) [] → cs ≡ repeat_by h simple now place e
+  pub repeat_is : (simple : Time) (now : ℤ) (place : ℕ) (t : Bool) (cs : List DueChange) → t ≡ may who → cs ≡ cond t (repeat_at simple now place who) [] → cs ≡ coming_repeat h simple now place e
   repeat_is simple now place t cs may_be told =
       told ∙ ap (λ b. cond b (repeat_at simple now place who) []) may_be
       ∙ ap (λ k. cond (may k) (repeat_at simple now place k) []) (sym same)
@@ -65,19 +65,19 @@ abbrev begins_or_none : History → Option Interval → ℤ → ℕ → Node →
 begins_or_none h interval now place e = cond (outer_stands h e.serial) [] (coming_begin h now place e interval)
 
 -- what comes of an active element, and of another
-pub both_are : (h : History) (interval : Option Interval) (simple : Time) (now : ℤ) (place : ℕ) (e : Node) (t : Bool) (first second : Option Moved) → t ≡ is_active h.diary e.serial → and_coming first [] ≡ moved_by h interval now place e → and_coming second [] ≡ cond t (repeat_by h simple now place e) [] → both first second ≡ coming_by h interval simple now place e
+pub both_are : (h : History) (interval : Option Interval) (simple : Time) (now : ℤ) (place : ℕ) (e : Node) (t : Bool) (first second : Option Moved) → t ≡ is_active h.diary e.serial → and_coming first [] ≡ moved_by h interval now place e → and_coming second [] ≡ cond t (coming_repeat h simple now place e) [] → both first second ≡ coming_by h interval simple now place e
 both_are h interval simple now place e t first second active is again =
-    one_then first (and_coming second []) ∙ ap (λ cs. and_coming first [] ++ cs) again ∙ ap (λ cs. cs ++ cond t (repeat_by h simple now place e) []) is
+    one_then first (and_coming second []) ∙ ap (λ cs. and_coming first [] ++ cs) again ∙ ap (λ cs. cs ++ cond t (coming_repeat h simple now place e) []) is
     ∙ by t active
   where
-    by : (b : Bool) → b ≡ is_active h.diary e.serial → moved_by h interval now place e ++ cond b (repeat_by h simple now place e) [] ≡ coming_by h interval simple now place e
+    by : (b : Bool) → b ≡ is_active h.diary e.serial → moved_by h interval now place e ++ cond b (coming_repeat h simple now place e) [] ≡ coming_by h interval simple now place e
     by true q =
-        ap (λ u. cond u (ends_or_none h interval now place e) (begins_or_none h interval now place e) ++ repeat_by h simple now place e) (sym q)
-        ∙ ap (λ u. cond u (ends_or_none h interval now place e ++ repeat_by h simple now place e) (begins_or_none h interval now place e)) q
+        ap (λ u. cond u (ends_or_none h interval now place e) (begins_or_none h interval now place e) ++ coming_repeat h simple now place e) (sym q)
+        ∙ ap (λ u. cond u (ends_or_none h interval now place e ++ coming_repeat h simple now place e) (begins_or_none h interval now place e)) q
     by false q =
         ap (λ u. cond u (ends_or_none h interval now place e) (begins_or_none h interval now place e) ++ []) (sym q)
         ∙ append-nil (begins_or_none h interval now place e)
-        ∙ ap (λ u. cond u (ends_or_none h interval now place e ++ repeat_by h simple now place e) (begins_or_none h interval now place e)) q
+        ∙ ap (λ u. cond u (ends_or_none h interval now place e ++ coming_repeat h simple now place e) (begins_or_none h interval now place e)) q
 
 -- while the time parent's clock stands
 pub none_moves : (h : History) (interval : Option Interval) (now : ℤ) (place : ℕ) (e : Node) (t : Bool) → t ≡ outer_stands h e.serial → t ≡ true → [] ≡ moved_by h interval now place e

@@ -15,7 +15,7 @@ use Rattle.smil_model.specs.document.Valid.{IsDistinct, kind_of}
 use Rattle.smil_model.specs.diary.Diary.{History, birth_under, is_step, since_birth}
 use Rattle.smil_model.specs.diary.Lawful.{IsLawful, has_element}
 use Rattle.smil_model.specs.diary.Plays.{first_of}
-use Rattle.smil_model.specs.shown.Views.{begins_next, is_displaced, sets_off_sibling, since_finish}
+use Rattle.smil_model.specs.shown.Views.{begins_next, finished_by, is_displaced, sets_off_sibling, since_finish}
 use Rattle.smil_model.specs.declared.document.Kind.{Kind}
 use Rattle.smil_model.specs.declared.document.Kind.TheVariants as kinds
 use Rattle.std.proofs.lemmas.Option.{same_Some}
@@ -24,7 +24,7 @@ use Rattle.smil_laws.proofs.Lineages.{swap_eqb}
 use Rattle.smil_laws.proofs.Members.{Differ, differ_all, differ_kept}
 use Rattle.smil_element.proofs.Above.{IsUp, parent_node}
 use Rattle.smil_instances.proofs.Targets.{known_node}
-use Rattle.smil_element.specs.Displaced.{began_from, finished_by, following, may_set_off}
+use Rattle.smil_element.specs.Displaced.{began_from, following, may_set_off}
 use Rattle.smil_element.proofs.Siblings.{sibling_is, IsKnown, any_all, any_none, any_place, is_child, known_all}
 
 -- ---- by its place

@@ -12,13 +12,13 @@ use Rattle.smil_model.specs.declared.document.Node.{Node}
 use Rattle.smil_model.specs.document.Document.{elements, has_serial, is_element, is_time_child, serials, time_children, time_parent}
 use Rattle.smil_model.specs.diary.Diary.{History, is_paused, is_step, last_place, last_step, later_place, up_to, with_past}
 use Rattle.smil_model.specs.diary.Lawful.{AllLawful, IsLawful, has_element, is_lawful_step, may_begin}
-use Rattle.smil_model.specs.shown.Views.{is_sibling, sets_off_sibling}
+use Rattle.smil_model.specs.shown.Views.{finished_by, is_sibling, sets_off_sibling}
 use Rattle.smil_diary.specs.Places.{is_from, later_of}
 use Rattle.smil_diary.proofs.LastPlaces.{finish-last}
 use Rattle.smil_laws.proofs.Aside.{each_drop}
 use Rattle.smil_laws.proofs.Lineages.{swap_eqb}
 use Rattle.smil_past.proofs.Rows.{found_any}
-use Rattle.smil_element.specs.Displaced.{finished_by, may_set_off}
+use Rattle.smil_element.specs.Displaced.{may_set_off}
 
 -- ---- the last end
 

@@ -1,17 +1,10 @@
 -- What displaces an element, by the last entries on its siblings.
-use Rattle.std.specs.Prelude.{ℕ, suc, List, [], ◌∷◌, length, Bool, not, ◌&&◌, ◌||◌, ◌==◌, if◌then◌else◌, Option, None}
-use Rattle.std.specs.Option.{option_map_or}
+use Rattle.std.specs.Prelude.{ℕ, List, [], ◌∷◌, Bool, not, ◌&&◌, ◌||◌, ◌==◌, if◌then◌else◌, Option, None}
 use Rattle.smil_model.specs.declared.diary.Entry.{Entry}
 use Rattle.smil_model.specs.declared.diary.StepKind.TheVariants as kind
-use Rattle.smil_model.specs.diary.Diary.{last_place, last_step}
+use Rattle.smil_model.specs.diary.Diary.{last_step}
 use Rattle.smil_model.specs.diary.Plays.{first_of}
-use Rattle.smil_model.specs.shown.Views.{is_finish}
 use Rattle.smil_diary.specs.Places.{is_from}
-
--- how many entries there are up to the last end of an element; all where there is none
-abbrev pub finished_by : List Entry → ℕ → ℕ
-finished_by diary serial =
-    option_map_or suc (last_place (λ (x : Entry). is_finish serial x.step) diary) (length diary)
 
 -- whether an element began, and whether it began or resumed, after so many entries
 abbrev pub began_from : List Entry → ℕ → ℕ → Bool

@@ -1,17 +1,17 @@
 -- What is evaluated of one element.
-use Rattle.std.specs.Prelude.{◌≡◌, ℕ, ℤ, pos, ◌-ℤ◌, List, [], ◌∷◌, ◌++◌, Bool, not, ◌&&◌, ◌||◌, if◌then◌else◌, Option, Some, None, is_some}
+use Rattle.std.specs.Prelude.{◌≡◌, ℕ, ℤ, pos, ◌-ℤ◌, List, [], ◌∷◌, Bool, not, ◌&&◌, if◌then◌else◌, Option, Some, None}
 use Rattle.smil_model.specs.declared.times.Time.{Time}
 use Rattle.smil_model.specs.declared.times.Time.TheVariants.{At}
 use Rattle.smil_model.specs.declared.interval.Interval.{Interval}
 use Rattle.smil_model.specs.declared.interval.Play.{Play}
 use Rattle.smil_model.specs.declared.document.Node.{Node}
-use Rattle.smil_model.specs.Times.{later_time, time_le}
+use Rattle.smil_model.specs.Times.{time_le}
 use Rattle.smil_model.specs.diary.Diary.{History, is_active, is_paused}
-use Rattle.smil_model.specs.diary.Clocks.{run, outer, iteration_start, stands, outer_stands}
+use Rattle.smil_model.specs.diary.Clocks.{run, outer, outer_stands}
 use Rattle.smil_model.specs.interval.Durations.{Bounds, intermediate_end}
 use Rattle.smil_model.specs.interval.Current.{interval_given, simple_of}
 use Rattle.smil_model.specs.happening.Keys as model
-use Rattle.smil_model.specs.happening.Keys.{coming_begin, coming_end, coming_repeat_at}
+use Rattle.smil_model.specs.happening.Keys.{coming_begin, coming_end}
 use Rattle.smil_past.specs.declared.plays.facts.PastInterval.{PastInterval}
 use Rattle.smil_element.specs.declared.happening.change.DueChange.{DueChange}
 use Rattle.smil_element.specs.Parts.{coming_meant}
@@ -39,24 +39,11 @@ goes_on bounds simple play over =
     not (time_le simple (At (pos 0)))
     && not (time_le (intermediate_end bounds simple play.first play.start play.iteration) (At over))
 
--- what comes of an element by its own interval and simple duration
-abbrev pub repeat_by : History → Time → ℤ → ℕ → Node → List model.DueChange
-repeat_by h simple now place e =
-    if (is_some e.attrs.repeat_count || is_some e.attrs.repeat_dur) && not (stands h e.serial)
-    then coming_repeat_at h now place e simple (later_time simple (iteration_start h e.serial))
-    else []
-
+-- the begin or the end that comes of an element by its own interval
 abbrev pub moved_by : History → Option Interval → ℤ → ℕ → Node → List model.DueChange
 moved_by h interval now place e =
     if is_active h.diary e.serial
     then (if outer_stands h e.serial then [] else coming_end h now place e interval)
-    else (if outer_stands h e.serial then [] else coming_begin h now place e interval)
-
-abbrev pub coming_by : History → Option Interval → Time → ℤ → ℕ → Node → List model.DueChange
-coming_by h interval simple now place e =
-    if is_active h.diary e.serial
-    then (if outer_stands h e.serial then [] else coming_end h now place e interval)
-    ++ repeat_by h simple now place e
     else (if outer_stands h e.serial then [] else coming_begin h now place e interval)
 
 -- at most one begin or end, and at most one repeat

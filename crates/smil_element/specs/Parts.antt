@@ -1,5 +1,5 @@
 -- What happens to an element, and the parts of a presentation by which its group is told.
-use Rattle.std.specs.Prelude.{◌≡◌, ◌≤ℤ◌, ℕ, ℤ, List, [], ◌∷◌, ◌++◌, reverse, map, filter, Bool, not, ◌&&◌, Option, Some, None, if◌then◌else◌}
+use Rattle.std.specs.Prelude.{◌≡◌, ◌≤ℤ◌, ℕ, ℤ, List, [], ◌∷◌, ◌++◌, ◌&&◌, Option, Some, None, if◌then◌else◌}
 use Rattle.std.specs.declared.vec.Vec.{Vec}
 use Rattle.std.specs.declared.alloc.Global.{Global}
 use Rattle.smil_model.specs.declared.diary.Entry.{Entry}
@@ -12,7 +12,7 @@ use Rattle.smil_model.specs.diary.Diary.{History, is_active, is_paused, last_mom
 use Rattle.smil_model.specs.diary.Clocks.{outer}
 use Rattle.smil_model.specs.happening.Keys as model
 use Rattle.smil_model.specs.happening.Keys.{begins, ends, repeats}
-use Rattle.smil_model.specs.happening.Groups.{at_moment}
+use Rattle.smil_model.specs.happening.Groups.{at_moment, cut_steps}
 use Rattle.smil_model.specs.happening.Queue.{playing_child}
 use Rattle.smil_stretch.specs.Clocks.{AreClocksOf}
 use Rattle.smil_past.specs.Queues.{AreQueuesOf}
@@ -49,12 +49,6 @@ abbrev pub AppendsBy : Parts → Vec Entry Global → Vec Entry Global → (Hist
 AppendsBy parts old new steps =
     (h : History) → ArePartsOf parts h → Appends parts old new (steps h parts.moment)
 
--- the cuts of those of these nodes that are active, later ones first
-abbrev pub cut_steps : List Entry → List Node → List Step
-cut_steps diary nodes =
-    map (λ (n : Node). Cut n.serial)
-    (reverse (filter (λ (n : Node). is_active diary n.serial) nodes))
-
 -- the cut of a node, where it is active
 abbrev pub cut_of : List Entry → ℕ → List Step
 cut_of diary serial = if is_active diary serial then Cut serial ∷ [] else []
@@ -67,10 +61,6 @@ cuts_below parts who = cut_steps parts.book.now (descendants parts.tree.now.node
 abbrev pub next_of : History → ℤ → ℕ → Step
 next_of h moment first =
     if is_paused h.diary first then Resumed first else Began first (outer h first moment)
-
--- whether the element with this serial is active and not paused
-abbrev pub is_playing_by : List Entry → ℕ → Bool
-is_playing_by diary serial = is_active diary serial && not (is_paused diary serial)
 
 -- ---- of the time parent of an element
 

@@ -10,8 +10,8 @@ ghost use Rattle.smil_model.specs.document.Document.{elements, node_at};
 ghost use Rattle.smil_model.specs.diary.Lawful.{has_element};
 ghost use Rattle.smil_laws.specs.Near.{IsIntervalNear};
 ghost use Rattle.smil_past.specs.Past.{IsPresent, history_of};
-ghost use Rattle.smil_element.specs.Element.{and_coming, both, coming_by, goes_on, moved_by, repeat_by};
-ghost use Rattle.smil_model.specs.happening.Keys.{coming_begin, coming_end, coming_repeat_at};
+ghost use Rattle.smil_element.specs.Element.{and_coming, both, goes_on, moved_by};
+ghost use Rattle.smil_model.specs.happening.Keys.{coming_begin, coming_by, coming_end, coming_repeat, coming_repeat_at};
 ghost use Rattle.smil_model.specs.interval.Durations.{bounds_of};
 ghost use Rattle.smil_element.specs.Parts.{coming_meant};
 
@@ -20,7 +20,9 @@ use super::facts::{attrs_of, parent_of, played_of};
 use super::happening::{Change, DueChange};
 use super::present::Present;
 use smil_duration::Bounds;
-use smil_model::{Attrs, Interval, Key, Play, Time, later};
+use smil_model::{
+    Attrs, BEGIN_CLASS, EMPTY_END_CLASS, END_CLASS, Interval, Key, Play, Time, later,
+};
 use smil_past::Past;
 
 /// What comes of an element: its begin or its end, and its repeat.
@@ -74,7 +76,7 @@ fn moved_of(present: &Present<'_>, place: u32, interval: Option<Interval>) -> Op
     }
 }
 
-// The begin of an interval, in class 2.
+// The begin of an interval.
 fn begin_of(present: &Present<'_>, place: u32, interval: Interval) -> DueChange
     requires moment { IsPresent present.now.past.now present.now.moment }
     requires near { IsIntervalNear interval }
@@ -88,7 +90,7 @@ fn begin_of(present: &Present<'_>, place: u32, interval: Interval) -> DueChange
     DueChange {
         key: Key {
             value: clocks.to_document(present.who, interval.begin, present.moment),
-            class: 2,
+            class: BEGIN_CLASS,
             position: place,
             serial: present.who,
             repeat: false,
@@ -99,7 +101,7 @@ fn begin_of(present: &Present<'_>, place: u32, interval: Interval) -> DueChange
     }
 }
 
-// The end of an interval that is a number: in class 1, and in class 3 where the length is 0.
+// The end of an interval that is a number, in a class of its own where the length is 0.
 fn end_of(present: &Present<'_>, place: u32, interval: Interval) -> Option<DueChange>
     requires moment { IsPresent present.now.past.now present.now.moment }
     requires near { IsIntervalNear interval }
@@ -116,7 +118,11 @@ fn end_of(present: &Present<'_>, place: u32, interval: Interval) -> Option<DueCh
     Some(DueChange {
         key: Key {
             value: clocks.to_document(present.who, end, present.moment),
-            class: if interval.begin < end { 1 } else { 3 },
+            class: if interval.begin < end {
+                END_CLASS
+            } else {
+                EMPTY_END_CLASS
+            },
             position: place,
             serial: present.who,
             repeat: false,
@@ -132,7 +138,7 @@ fn repeat_of(present: &Present<'_>, place: u32, simple: Time) -> Option<DueChang
     ensures { (e : AnyNode)
         → node_at (elements present.now.past.now.document.nodes) present.now.who ≡ Some e
         → and_coming result []
-        ≡ repeat_by (history_of present.now.past.now) simple present.now.moment place e }
+        ≡ coming_repeat (history_of present.now.past.now) simple present.now.moment place e }
 {
     if may_repeat(present.past, present.who) {
         repeat_at(present, place, simple)
@@ -179,7 +185,7 @@ fn repeat_at(present: &Present<'_>, place: u32, simple: Time) -> Option<DueChang
     Some(DueChange {
         key: Key {
             value: moment_of(present, over),
-            class: 1,
+            class: END_CLASS,
             position: place,
             serial: present.who,
             repeat: true,

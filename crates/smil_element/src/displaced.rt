@@ -1,19 +1,19 @@
 //! What displaces a frozen element in a seq or an excl.
 
-ghost use Rattle.std.specs.Prelude.{◌≡◌, ◌<◌, ◌==◌, ℕ, true, false, ◌+◌, length, position, slice_get, IfSome, Option, Some};
+ghost use Rattle.std.specs.Prelude.{◌≡◌, ◌<◌, true, false, ◌+◌, length, slice_get, Option, Some};
 ghost use Rattle.std.specs.List.{list_any};
 ghost use Rattle.std.specs.Option.{option_map_or};
 ghost use Rattle.smil_model.specs.declared.document.Node.{Node};
 ghost use Rattle.smil_model.specs.document.Document.{serial_of, serials, time_children};
 ghost use Rattle.smil_model.specs.diary.Diary.{birth_under};
 ghost use Rattle.smil_model.specs.diary.Lawful.{has_element};
-ghost use Rattle.smil_model.specs.shown.Views.{is_displaced};
+ghost use Rattle.smil_model.specs.shown.Views.{finished_by, is_displaced};
 ghost use Rattle.smil_past.specs.Past.{history_of};
-ghost use Rattle.smil_element.specs.Displaced.{began_from, finished_by, following, is_set_off, may_set_off};
+ghost use Rattle.smil_element.specs.Displaced.{began_from, following, is_set_off, may_set_off};
 
 use super::facts::parent_of;
 use smil_diary::{is_from, later_of};
-use smil_model::{Kind, StepKind};
+use smil_model::{Kind, StepKind, position_in};
 use smil_past::Past;
 
 // Whether another child of its seq or excl began or resumed after the last end of an element, or
@@ -87,7 +87,7 @@ fn next_child(past: &Past, parent: u32, who: u32) -> Option<u32>
     ensures { result ≡ following who (serials (time_children past.now.document.nodes parent)) }
 {
     let children = past.tree().time_children(parent);
-    let place = place_in(children, who)?;
+    let place = position_in(children, who)?;
     serial_after(children, place)
 }
 
@@ -97,12 +97,4 @@ fn serial_after(serials: &[u32], place: usize) -> Option<u32>
     ensures { result ≡ slice_get serials.now (place + 1) }
 {
     serials.get(place + 1).copied()
-}
-
-// The first place of a serial among others.
-fn place_in(serials: &[u32], who: u32) -> Option<usize>
-    ensures place { result ≡ position (λ s. s == who) serials.now }
-    ensures within { IfSome result (λ place. place < length serials.now) }
-{
-    serials.iter().position(|serial| *serial == who)
 }

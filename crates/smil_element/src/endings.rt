@@ -17,7 +17,7 @@ ghost use Rattle.smil_element.specs.Endings.{ending_by};
 
 use super::facts::{attrs_of, kind_of, parent_of, played_of};
 use super::intervals::{Container, Intervals};
-use smil_endsync::implicit;
+use smil_endsync::{by_endsync, implicit};
 use smil_model::{Attrs, ChildEnd, Endsync, Interval, Kind, Time};
 use smil_past::{Past, PastInterval};
 use std::alloc::AllocError;
@@ -64,18 +64,11 @@ pub fn walked_duration<J: Intervals>(
     let who = container.who;
     let start = container.start;
     deciding_ends(past, intervals, who, children)?;
-    Ok(end_by(kind_of(past, who), attrs_of(past, who), start, children))
-}
-
-// The implicit duration of an active container, by the ends of its time children; `last` where it
-// has no `endsync`.
-fn end_by(kind: Kind, attrs: &Attrs, start: i64, children: &[ChildEnd]) -> Time
-    ensures { result ≡ container_duration kind (endsync_of attrs.now) start children.now }
-{
-    match &attrs.endsync {
-        Some(endsync) => implicit(kind, endsync, start, children),
-        None => implicit(kind, &Endsync::Last, start, children),
-    }
+    let kind = kind_of(past, who);
+    let ends = children.as_slice();
+    Ok(by_endsync(attrs_of(past, who), |endsync| {
+        implicit(kind, endsync, start, ends)
+    }))
 }
 
 // The ends of those time children of a container by which its implicit duration is told: in a seq

@@ -1,16 +1,14 @@
 //! One evaluation of one element.
 
-ghost use Rattle.std.specs.Prelude.{◌≡◌, ◌≤◌, ◌+◌, ℕ, ℤ, Some, true, false, Option, IfOk, OnOk};
+ghost use Rattle.std.specs.Prelude.{◌≡◌, ◌≤◌, ◌+◌, ℕ, Some, true, false, Option, IfOk, OnOk};
 ghost use Rattle.smil_model.specs.declared.document.Node.{Node as AnyNode};
 ghost use Rattle.smil_model.specs.declared.interval.Interval.{Interval as AnyInterval};
-ghost use Rattle.smil_model.specs.declared.document.Edge.TheVariants as edge;
 ghost use Rattle.smil_model.specs.document.Document.{elements, node_at, is_container_kind};
 ghost use Rattle.smil_model.specs.document.Dependencies.{has_implicit_duration};
 ghost use Rattle.smil_model.specs.diary.Lawful.{has_element};
 ghost use Rattle.smil_model.specs.interval.Instances.{begin_times, end_times};
 ghost use Rattle.smil_model.specs.interval.Current;
 ghost use Rattle.smil_model.specs.interval.Current.{container_implicit, simple_of};
-ghost use Rattle.smil_past.specs.Syncs.{is_empty, syncs_of};
 ghost use Rattle.smil_past.specs.Past.{IsPresent, history_of};
 ghost use Rattle.smil_element.specs.Element.{IsEvaluated};
 
@@ -83,89 +81,53 @@ pub fn evaluation_of<J: Containers, L: Ledger>(
         intervals,
         moment: present.moment,
     };
-    fill_begins(&reading, who, &mut room.begins)?;
-    fill_ends(&reading, who, &mut room.ends)?;
+    let begins = begins_of(&reading, who, &mut room.begins)?;
+    let ends = ends_of(&reading, who, &mut room.ends)?;
     let facts = facts_of(present, simple);
-    let begins = begins_told(past, who, &room.begins);
-    let ends = ends_told(past, who, &room.ends);
     Ok(Evaluation {
         interval: evaluate(begins, ends, &facts, steps),
         simple,
     })
 }
 
-// Fills a list with the begin instance times of an element; where the diary alone gives them the
-// list stays as it is.
-fn fill_begins<J: Intervals>(
-    reading: &EvaluationInput<J>,
+// The begin instance times of an element: those that the diary gives, where it alone gives them, or
+// else those that the list is filled with. Refused where memory runs out.
+fn begins_of<'a, J: Intervals>(
+    reading: &EvaluationInput<'a, '_, J>,
     who: u32,
-    times: &mut Vec<i64>,
-) -> Result<(), AllocError>
+    times: &'a mut Vec<i64>,
+) -> Result<&'a [i64], AllocError>
     requires element { has_element reading.now.past.now.document.nodes who ≡ true }
     requires moment { IsPresent reading.now.past.now reading.now.moment }
     ensures { (e : AnyNode) → node_at (elements reading.now.past.now.document.nodes) who ≡ Some e
-        → is_empty (syncs_of reading.now.past.now.document.nodes edge.Begin e) ≡ false
-        → OnOk result (times.new.items ≡ begin_times (history_of reading.now.past.now)
+        → IfOk result (λ begins. begins.now ≡ begin_times (history_of reading.now.past.now)
         (J.given reading.now.intervals.now) reading.now.moment e) }
 {
     if is_settled(reading.past, who, Edge::Begin) {
-        return Ok(());
+        return Ok(reading.past.instances().begins(who));
     }
-    pour_begins(reading, who, times)
+    pour_begins(reading, who, times)?;
+    Ok(times)
 }
 
-// Fills a list with the end instance times of an element; where the diary alone gives them the
-// list stays as it is.
-fn fill_ends<J: Intervals>(
-    reading: &EvaluationInput<J>,
+// The end instance times of an element: those that the diary gives, where it alone gives them, or
+// else those that the list is filled with. Refused where memory runs out.
+fn ends_of<'a, J: Intervals>(
+    reading: &EvaluationInput<'a, '_, J>,
     who: u32,
-    times: &mut Vec<Time>,
-) -> Result<(), AllocError>
+    times: &'a mut Vec<Time>,
+) -> Result<&'a [Time], AllocError>
     requires element { has_element reading.now.past.now.document.nodes who ≡ true }
     requires moment { IsPresent reading.now.past.now reading.now.moment }
     ensures { (e : AnyNode) → node_at (elements reading.now.past.now.document.nodes) who ≡ Some e
-        → is_empty (syncs_of reading.now.past.now.document.nodes edge.End e) ≡ false
-        → OnOk result (times.new.items ≡ end_times (history_of reading.now.past.now)
+        → IfOk result (λ ends. ends.now ≡ end_times (history_of reading.now.past.now)
         (J.given reading.now.intervals.now) reading.now.moment e) }
 {
     if is_settled(reading.past, who, Edge::End) {
-        return Ok(());
+        return Ok(reading.past.instances().ends(who));
     }
-    pour_ends(reading, who, times)
-}
-
-// The begin instance times of an element: those that the diary alone gives, or else those in the
-// list. It takes no memory.
-fn begins_told<'a>(past: &'a Past, who: u32, filled: &'a [i64]) -> &'a [i64]
-    requires { has_element past.now.document.nodes who ≡ true }
-    ensures { (e : AnyNode) (intervals : ℕ → Option AnyInterval) (now : ℤ)
-        → node_at (elements past.now.document.nodes) who ≡ Some e
-        → (is_empty (syncs_of past.now.document.nodes edge.Begin e) ≡ false → filled.now
-        ≡ begin_times (history_of past.now) intervals now e) → result.now
-        ≡ begin_times (history_of past.now) intervals now e }
-{
-    if is_settled(past, who, Edge::Begin) {
-        past.instances().begins(who)
-    } else {
-        filled
-    }
-}
-
-// The end instance times of an element: those that the diary alone gives, or else those in the
-// list. It takes no memory.
-fn ends_told<'a>(past: &'a Past, who: u32, filled: &'a [Time]) -> &'a [Time]
-    requires { has_element past.now.document.nodes who ≡ true }
-    ensures { (e : AnyNode) (intervals : ℕ → Option AnyInterval) (now : ℤ)
-        → node_at (elements past.now.document.nodes) who ≡ Some e
-        → (is_empty (syncs_of past.now.document.nodes edge.End e) ≡ false → filled.now
-        ≡ end_times (history_of past.now) intervals now e) → result.now
-        ≡ end_times (history_of past.now) intervals now e }
-{
-    if is_settled(past, who, Edge::End) {
-        past.instances().ends(who)
-    } else {
-        filled
-    }
+    pour_ends(reading, who, times)?;
+    Ok(times)
 }
 
 // The simple duration of an element, given the intervals of its time children.

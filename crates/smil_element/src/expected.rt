@@ -6,25 +6,24 @@ ghost use Rattle.smil_model.specs.document.Document.{elements, node_at};
 ghost use Rattle.smil_model.specs.diary.Diary.{is_active};
 ghost use Rattle.smil_model.specs.diary.Lawful.{has_element};
 ghost use Rattle.smil_model.specs.interval.Instances.{begin_times, end_times, expected_times, interval_edge};
-ghost use Rattle.smil_model.specs.Rising.{IsRising, put_in};
+ghost use Rattle.smil_model.specs.Rising.{IsRising};
 ghost use Rattle.smil_past.specs.Syncs.{expected_by, is_empty, syncs_of};
 ghost use Rattle.smil_model.specs.Times.{IsNear};
 ghost use Rattle.smil_element.specs.Pouring.{with_times};
 ghost use Rattle.smil_past.specs.Past.{IsPresent, history_of};
 
 use super::intervals::Intervals;
-use smil_duration::moved;
-use smil_instance_rows::Instant;
-use smil_model::{Edge, Time};
+use smil_instance_rows::{Instant, put_in};
+use smil_model::{Edge, Time, moved};
 use smil_past::{Past, Syncbase};
 use std::alloc::AllocError;
 
 /// What an evaluation reads: what has happened, the intervals of the elements, and the present
 /// moment, in milliseconds of document time.
 #[derive(Drop)]
-pub struct EvaluationInput<'a, J: Intervals> {
+pub struct EvaluationInput<'a, 'b, J: Intervals> {
     pub past: &'a Past,
-    pub intervals: &'a J,
+    pub intervals: &'b J,
     pub moment: i64,
 }
 
@@ -152,17 +151,7 @@ fn put_some<T: Instant>(times: &mut Vec<T>, time: Option<Time>) -> Result<(), Al
         return Ok(());
     };
     match T::of_time(time) {
-        Some(value) => put(times, value),
+        Some(value) => put_in(times, value),
         None => Ok(()),
     }
-}
-
-// Puts a value in its place among rising ones.
-fn put<T: Instant>(times: &mut Vec<T>, value: T) -> Result<(), AllocError>
-    requires { IsRising T.at_most times.old.items }
-    ensures { OnOk result (times.new.items ≡ put_in T.at_most value times.old.items) }
-{
-    let place = times.partition_point(|time| time.is_before(value));
-    times.insert(place, value)?;
-    Ok(())
 }

@@ -1,7 +1,8 @@
 //! The ends of the time children of one container, kept under a change of one child.
 
-ghost use Rattle.std.specs.Prelude.{◌≡◌, ◌<◌, ◌≤◌, ◌^◌, Some, IfOk, length, find, map, slice_get};
+ghost use Rattle.std.specs.Prelude.{◌≡◌, ◌<◌, ◌≤◌, Some, IfOk, length, find, map, slice_get};
 ghost use Rattle.std.specs.List.{position};
+ghost use Rattle.smil_model.specs.Tournaments.{most_items};
 ghost use Rattle.smil_model.specs.declared.interval.ChildEnd.{ChildEnd as AnyEnd};
 ghost use Rattle.smil_model.specs.interval.Durations;
 ghost use Rattle.smil_model.specs.interval.Durations.{container_duration};
@@ -88,7 +89,7 @@ impl Ends {
     /// These ends, of at most 2^32 children. It takes a step for each child, and memory for a
     /// summary of each and of neighbours; refused where memory runs out.
     pub fn of(alloc: Global, children: Vec<ChildEnd>) -> Result<Ends, AllocError>
-        requires { length children.items ≤ 2 ^ 32 }
+        requires { length children.items ≤ most_items }
         ensures { IfOk result (λ ends. ends ≡ children.items) }
     {
         let summaries = summaries(alloc, &children)?;

@@ -2,7 +2,9 @@
 #![tactic(auto)]
 
 ghost use Rattle.std.specs.Prelude.{◌≡◌, neg_ℤ, find, fold, map, unwrap_or};
+ghost use Rattle.std.specs.Fn.{FnOnceReturnsAt};
 ghost use Rattle.smil_model.specs.Times.{later_time, greatest_time};
+ghost use Rattle.smil_model.specs.document.Defaults.{endsync_of};
 ghost use Rattle.smil_model.specs.interval.Durations;
 ghost use Rattle.smil_model.specs.interval.Durations.{container_duration};
 ghost use Rattle.smil_endsync.specs.Known;
@@ -10,9 +12,8 @@ ghost use Rattle.smil_endsync.specs.Known;
 mod ends;
 
 pub use ends::Ends;
-use smil_duration::capped;
 pub use smil_model::ChildEnd;
-use smil_model::{Endsync, Kind, Time, greatest, least};
+use smil_model::{Attrs, Endsync, Kind, Time, capped, greatest, least};
 
 /// The implicit duration of an active container, in milliseconds, by the ends of its time children
 /// in document order: 0 without time children, and else where they end, less `start`, and not below
@@ -28,6 +29,17 @@ pub fn implicit(kind: Kind, endsync: &Endsync, start: i64, ends: &[ChildEnd]) ->
         Time::At(0),
         since(start, children_end(kind, endsync, start, ends)),
     )
+}
+
+/// What a rule gives for the `endsync` of these attributes, which is `last` where they have none.
+pub fn by_endsync<F: FnOnce(&Endsync) -> Time>(attrs: &Attrs, rule: F) -> Time
+    requires { F.IsAlwaysCallable rule }
+    ensures { FnOnceReturnsAt F.FnOnce rule (endsync_of attrs.now) result }
+{
+    match &attrs.endsync {
+        Some(endsync) => rule(endsync),
+        None => rule(&Endsync::Last),
+    }
 }
 
 // How long after `start` a time is.

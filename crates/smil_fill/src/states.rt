@@ -16,6 +16,8 @@ fn is_kept(fill: Fill, displaced: bool) -> bool
     }
 }
 
+// Whether an element is shown as it was at its end: by its own fill, or since it was cut and its
+// time parent is frozen.
 fn is_frozen(facts: &ViewFacts) -> bool
     ensures { result ≡ is_frozen_by facts.now }
 {

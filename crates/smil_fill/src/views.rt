@@ -39,6 +39,7 @@ fn settled(value: Option<i64>) -> Shown
     }
 }
 
+// The begin that is shown of an element in this state.
 fn begin(facts: &ViewFacts, state: State) -> Shown
     requires { HasNumbersWithin facts.now }
     ensures { result ≡ shown_begin facts.now state }
@@ -55,6 +56,7 @@ fn begin(facts: &ViewFacts, state: State) -> Shown
     }
 }
 
+// The end that is shown of an element in this state.
 fn end(facts: &ViewFacts, state: State) -> Shown
     requires { HasNumbersWithin facts.now }
     ensures { result ≡ shown_end facts.now state }
@@ -73,8 +75,8 @@ fn end(facts: &ViewFacts, state: State) -> Shown
 /// times of the view are in milliseconds of document time.
 ///
 /// The state is the first that applies: paused, active, deferred, frozen, waiting, done, idle.
-/// Frozen needs a finished interval, and either a fill that keeps it (SMIL 3.0, the attribute
-/// `fill`), or that this interval was cut and the time parent is frozen.
+/// Frozen needs a finished interval, and either a fill that keeps it, or that this interval was cut
+/// and the time parent is frozen. SMIL 3.0, "The fill attribute".
 pub fn view(facts: &ViewFacts) -> View
     requires { HasNumbersWithin facts.now }
     ensures { result ≡ view_by facts.now }

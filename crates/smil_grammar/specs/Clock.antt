@@ -3,15 +3,11 @@ use Rattle.std.specs.Prelude.{ℕ, ◌+◌, ◌*◌, ◌/◌, ℤ, pos, nat_abs,
 use Rattle.std.specs.List.{prefix_len}
 use Rattle.std.specs.Char.{is_ascii_digit}
 use Rattle.smil_model.specs.declared.times.TheConstants.{HORIZON}
-use Rattle.smil_grammar.specs.declared.units.TheConstants.{SECOND, MINUTE, HOUR, BILLION}
+use Rattle.smil_grammar.specs.declared.units.TheConstants.{SECOND, MINUTE, HOUR, BILLION, TENTH}
 use Rattle.smil_grammar.specs.Texts.{◌>>=◌, cut_at, point, colon}
 use Rattle.smil_grammar.specs.Numbers.{number_of, sixty_of, with_fraction}
 use Rattle.smil_grammar.specs.declared.fault.ClockFault.{ClockFault}
 use Rattle.smil_grammar.specs.declared.fault.ClockFault.TheVariants.{Bad, TooLong}
-
--- a fraction is counted in billionths, so digits past the ninth count nothing
-abbrev pub tenth : ℕ
-tenth = 100_000_000
 
 -- a number with its billionths, of a unit of so many milliseconds,
 -- rounded down to whole milliseconds
@@ -23,14 +19,14 @@ abbrev pub full : List ℕ → List ℕ → List ℕ → Option ℕ
 full hours minutes seconds = do
   h ← number_of hours
   m ← sixty_of minutes
-  s ← with_fraction sixty_of tenth seconds
+  s ← with_fraction sixty_of TENTH seconds
   Some (h * HOUR + m * MINUTE + milliseconds SECOND s)
 
 -- a partial clock value: minutes, and seconds with an optional fraction
 abbrev pub partial : List ℕ → List ℕ → Option ℕ
 partial minutes seconds = do
   m ← sixty_of minutes
-  s ← with_fraction sixty_of tenth seconds
+  s ← with_fraction sixty_of TENTH seconds
   Some (m * MINUTE + milliseconds SECOND s)
 
 -- how many milliseconds a metric has; seconds where it is left out
@@ -50,7 +46,7 @@ is_of_number b = is_ascii_digit b || (b == point)
 abbrev pub time_count : List ℕ → Option ℕ
 time_count text = do
   unit ← unit_of (drop (prefix_len is_of_number text) text)
-  n ← with_fraction number_of tenth (take (prefix_len is_of_number text) text)
+  n ← with_fraction number_of TENTH (take (prefix_len is_of_number text) text)
   Some (milliseconds unit n)
 
 -- a second colon makes a full clock value, none a partial one

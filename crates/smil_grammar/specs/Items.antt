@@ -12,6 +12,7 @@ use Rattle.smil_model.specs.declared.document.Edge.{Edge}
 use Rattle.smil_model.specs.declared.document.Edge.TheVariants.{Begin, End}
 use Rattle.smil_grammar.specs.declared.fault.ItemFault.{ItemFault}
 use Rattle.smil_grammar.specs.declared.fault.ItemFault.TheVariants.{Bad, Unsupported, Memory}
+use Rattle.smil_grammar.specs.declared.words.TheConstants.{ACCESS_KEY}
 use Rattle.smil_grammar.specs.Texts.{◌>>=◌, cut_at, trim_front, behind, open_parenthesis, close_parenthesis, plus, minus, point, zero_digit}
 use Rattle.smil_grammar.specs.Words.{id_len, name_len, unescaped}
 use Rattle.smil_grammar.specs.Numbers.{number_of}
@@ -27,7 +28,7 @@ is_sign b = (b == plus) || (b == minus)
 abbrev pub with_sign : ℕ → ℕ → ℤ
 with_sign sign n = if sign == minus then neg_ℤ (pos n) else pos n
 
--- a sign and a clock value, with white space between them where one likes
+-- a sign and a clock value, between which white space may stand
 abbrev pub signed_of : List ℕ → Option ℤ
 signed_of [] = None
 signed_of (b ∷ bytes) =
@@ -39,8 +40,7 @@ offset_of [] = None
 offset_of (b ∷ bytes) =
     if is_sign b then signed_of (b ∷ bytes) else option_map pos (clock_within (b ∷ bytes))
 
--- a tail: a sign and a clock value behind a word, with white space between them where one likes,
--- or nothing
+-- a tail: nothing, or a sign and a clock value behind a word; white space may stand before each
 abbrev pub tail_of : List ℕ → Option ℤ
 tail_of [] = Some (pos 0)
 tail_of (b ∷ bytes) = signed_of (trim_front (b ∷ bytes))
@@ -105,7 +105,7 @@ is_left_out text =
 -- an access key, in two spellings
 abbrev pub is_keyed : List ℕ → Bool
 is_keyed text =
-    starts_with nat_eq text (codes "accesskey(") || starts_with nat_eq text (codes "accessKey(")
+    starts_with nat_eq text ACCESS_KEY.now || starts_with nat_eq text (codes "accessKey(")
 
 -- what stands behind these words: the key, a parenthesis, and a tail
 abbrev pub key_of : List ℕ → Option Item
@@ -116,7 +116,7 @@ key_of (b ∷ text) = if is_key b then (behind close_parenthesis text >>= with_t
 abbrev pub named_of : List ℕ → Result Item ItemFault
 named_of text =
     if is_left_out text then Err Unsupported
-    else (if is_keyed text then ok_or (key_of (drop 10 text)) Bad
+    else (if is_keyed text then ok_or (key_of (drop (length ACCESS_KEY.now) text)) Bad
     else (if bytes_eq text (codes "indefinite") then Ok Indefinite
     else (if id_len true text == 0 then Err Bad
     else subject_of text (behind point (drop (id_len true text) text)))))

@@ -14,9 +14,8 @@ use Rattle.smil_grammar.specs.Texts.{is_white, trim, semicolon}
 use Rattle.smil_grammar.specs.Results.{◌>>=◌}
 use Rattle.smil_grammar.specs.Items.{item_of, IsItem}
 
--- A malformed item is answered at its own place, and in the begin of a child of a seq at the first
--- item's:
--- the first argument below is the place of that first item, or None.
+-- A malformed item is answered at its own place, and in the begin of a child of a seq at the place
+-- of the first item, which is the first argument below; None in other lists.
 
 -- an item with the place of its fault
 abbrev pub item_at : Option ℕ → ℕ → Result Item ItemFault → Result Item ListFault
@@ -39,14 +38,14 @@ items_from first place (piece ∷ pieces) = do
   Ok (item ∷ items)
 
 -- the list is cut at each `;`
-abbrev pub pieces_of : List ℕ → List (List ℕ)
-pieces_of text = slice_split (λ b. b == semicolon) text
+abbrev pub item_pieces : List ℕ → List (List ℕ)
+item_pieces text = slice_split (λ b. b == semicolon) text
 
 -- at most so many items: that there are more is answered before any fault of an item
 abbrev pub few_items : Option ℕ → List ℕ → Result (List Item) ListFault
 few_items first text =
-    if nat_lt ITEMS (length (pieces_of text)) then Err TooManyItems
-    else items_from first 0 (pieces_of text)
+    if nat_lt ITEMS (length (item_pieces text)) then Err TooManyItems
+    else items_from first 0 (item_pieces text)
 
 -- one offset that isn't negative
 abbrev pub is_plain : List Item → Bool

@@ -23,9 +23,11 @@ use Rattle.smil_grammar.specs.Results.{◌>>=◌}
 use Rattle.smil_grammar.specs.Attributes.{kind_called, is_other_kind, attr_name_of}
 use Rattle.smil_grammar.specs.Values.{value_of}
 
+-- whether a byte is a space
 abbrev pub is_space : ℕ → Bool
 is_space b = b == space
 
+-- whether a byte isn't a space
 abbrev pub is_no_space : ℕ → Bool
 is_no_space b = not (b == space)
 
@@ -56,6 +58,7 @@ attribute_at place lead value =
     })
     else None
 
+-- an attribute before others, where both are there
 abbrev pub with_written : Option WrittenAttr → Option (List WrittenAttr) → Option (List WrittenAttr)
 with_written (Some attribute) (Some attributes) = Some (attribute ∷ attributes)
 with_written _ _ = None
@@ -73,6 +76,7 @@ pub record Shape : Type 0 where
   pub kind : List ℕ
   pub attributes : List WrittenAttr
 
+-- the shape of a kind, which has a byte at least, and the attributes behind it
 abbrev pub shaped : List ℕ → Option (List WrittenAttr) → Option Shape
 shaped kind None = None
 shaped kind (Some attributes) =
@@ -84,50 +88,55 @@ shaped kind (Some attributes) =
 abbrev pub is_of_kind : ℕ → Bool
 is_of_kind b = not (b == space) && not (b == quote)
 
-abbrev pub pieces_of : List ℕ → List (List ℕ)
-pieces_of text = slice_split (λ b. b == quote) text
+-- the text is cut at each quote
+abbrev pub quote_pieces : List ℕ → List (List ℕ)
+quote_pieces text = slice_split (λ b. b == quote) text
 
 -- the kind is what stands before the first space or quote
 abbrev pub shape_of : List ℕ → Option Shape
 shape_of line =
     let kind : ℕ = prefix_len is_of_kind line in
-    shaped (take kind line) (attributes_at kind (pieces_of (drop kind line)))
+    shaped (take kind line) (attributes_at kind (quote_pieces (drop kind line)))
 
--- where serials are given: the shape without ` #` and the serial behind the kind, and that serial
+-- a shape and its serial, where both are there
 abbrev pub with_serial : Option ℕ → Option Shape → Option (ℕ × Shape)
 with_serial (Some serial) (Some shape) = Some (serial, shape)
 with_serial _ _ = None
 
+-- the shape of a kind and what stands behind ` #`: the serial, and the attributes
 abbrev pub shape_behind : List ℕ → Option (List ℕ) → Option (ℕ × Shape)
 shape_behind kind None = None
 shape_behind kind (Some text) =
     let digits : ℕ = prefix_len is_ascii_digit text in
     with_serial (count_of (take digits text))
-    (shaped kind (attributes_at (length kind + 2 + digits) (pieces_of (drop digits text))))
+    (shaped kind (attributes_at (length kind + 2 + digits) (quote_pieces (drop digits text))))
 
+-- where serials are given: the serial, and the shape without it and the ` #` before it
 abbrev pub saved_shape_of : List ℕ → Option (ℕ × Shape)
 saved_shape_of line =
     let kind : ℕ = prefix_len is_of_kind line in
     shape_behind (take kind line)
     (option_and_then (behind number_sign) (behind space (drop kind line)))
 
--- a name that stands twice
+-- whether a name stands twice
 abbrev pub repeats : List WrittenAttr → Bool
 repeats [] = false
 repeats (attribute ∷ attributes) =
     list_any (λ (other : WrittenAttr). bytes_eq other.name attribute.name) attributes
     || repeats attributes
 
--- the kind of a node line: its shape and repeated names come before it
+-- the kind of a word, or its fault, which tells elements of SMIL that are left out
 abbrev pub kind_or : List ℕ → Option Kind → Result Kind NodeFault
 kind_or word (Some kind) = Ok kind
 kind_or word None = if is_other_kind word then Err (Unsupported 1) else Err BadOutline
 
+-- the kind of a shape: a line without a shape and a name that stands twice come before its fault
 abbrev pub kind_of_shape : Option Shape → Result Kind NodeFault
 kind_of_shape None = Err BadOutline
 kind_of_shape (Some shape) =
     if repeats shape.attributes then Err BadOutline else kind_or shape.kind (kind_called shape.kind)
 
+-- the kind of a node line
 abbrev pub kind_of : List ℕ → Result Kind NodeFault
 kind_of line = kind_of_shape (shape_of line)
 
@@ -152,6 +161,7 @@ at_column written (Err attr.Memory) = Err Memory
 abbrev pub attribute_of : Bool → Kind → List ℕ → List ℕ → Result Attr AttrFault
 attribute_of in_seq k name value = attr_name_of k name >>= λ n. value_of in_seq n value
 
+-- the attribute that is written, or its fault with its column
 abbrev pub attr_of : Bool → Kind → WrittenAttr → Result Attr NodeFault
 attr_of in_seq k written = at_column written (attribute_of in_seq k written.name written.value)
 
@@ -161,6 +171,7 @@ attrs_from in_seq k attrs [] = Ok attrs
 attrs_from in_seq k attrs (written ∷ others) =
     attr_of in_seq k written >>= λ given. attrs_from in_seq k (with_attr attrs given) others
 
+-- the kind and the attributes of a shape, below a parent
 abbrev pub attrs_of : Option Kind → Kind → Option Shape → Result (Kind × Attrs) NodeFault
 attrs_of parent k None = Err BadOutline
 attrs_of parent k (Some shape) =

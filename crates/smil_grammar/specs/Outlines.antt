@@ -12,6 +12,7 @@ use Rattle.smil_model.specs.declared.order.Refusal.TheVariants as refusal
 use Rattle.smil_model.specs.document.Document.{Document, is_class_kind}
 use Rattle.smil_grammar.specs.declared.fault.NodeFault.{NodeFault}
 use Rattle.smil_grammar.specs.declared.fault.NodeFault.TheVariants as fault
+use Rattle.smil_grammar.specs.declared.words.TheConstants.{HEADER}
 use Rattle.smil_grammar.specs.Results.{◌>>=◌}
 use Rattle.smil_grammar.specs.Nodes.{Shape, is_space, is_no_space, shape_of, saved_shape_of, kind_of_shape, attrs_from}
 use Rattle.smil_grammar.specs.Items.{count_of}
@@ -47,12 +48,12 @@ abbrev pub in_line : {A : Type 0} → ℕ → Result A NodeFault → Result A Re
 in_line spaces (Ok x) = Ok x
 in_line spaces (Err e) = Err (refused spaces e)
 
--- goes on refuse_if this holds
+-- refused where this holds
 abbrev pub refuse_if : Bool → Refusal → Result (Unit {0}) Refusal
 refuse_if true e = Err e
 refuse_if false e = Ok tt
 
--- an excl doesn't mix classes with other children
+-- whether a node of this kind would make classes and other children stand below one parent
 abbrev pub mixes : List Node → Option (ℕ × Kind) → Kind → Bool
 mixes nodes None kind = false
 mixes nodes (Some parent) kind =
@@ -81,7 +82,7 @@ abbrev pub shape_in : Outline → Option ℕ → List ℕ → Option (ℕ × Sha
 shape_in outline None text = option_map (λ shape. (length outline.nodes + 1, shape)) (shape_of text)
 shape_in outline (Some next) text = saved_shape_of text
 
--- a serial is below the next one, and no line before has it
+-- a serial has to be below the next one, and no line before may have it
 abbrev pub is_bad_serial : Outline → Option ℕ → ℕ → Bool
 is_bad_serial outline None serial = false
 is_bad_serial outline (Some next) serial =
@@ -115,7 +116,9 @@ node_within allowed outline spaces above kind serial shape = do
 -- the header of an outline that gives serials: the next serial
 abbrev pub header_of : List ℕ → Option ℕ
 header_of line =
-    if starts_with nat_eq line (codes "outline 2 next ") then count_of (drop 15 line) else None
+    if starts_with nat_eq line HEADER.now
+    then count_of (drop (length HEADER.now) line)
+    else None
 
 -- a first line whose first word is `outline` is a header, or faulty
 abbrev pub opens_saved : Outline → List ℕ → Bool
@@ -124,6 +127,7 @@ opens_saved outline line =
     not (is_some outline.next) && (length outline.nodes == 0)
     && bytes_eq (take (prefix_len is_no_space text) text) (codes "outline")
 
+-- the outline with the next serial that its header gives
 abbrev pub with_header : Outline → Option ℕ → Result Outline Refusal
 with_header outline None = Err refusal.BadOutline
 with_header outline (Some next) = Ok (record outline { next = Some next })
@@ -147,7 +151,7 @@ shape_within allowed outline spaces (Some (serial, shape)) = do
   node ← node_within allowed outline spaces (take (spaces / 2) outline.branch) kind serial shape
   Ok (with_node outline (spaces / 2) node)
 
--- one more line that is no long one: a header, or a node line
+-- one more line that isn't too long: a header, or a node line
 abbrev pub read_within : Limits → Outline → List ℕ → Result Outline Refusal
 read_within allowed outline line =
     let spaces : ℕ = prefix_len is_space line in
@@ -170,6 +174,7 @@ lines_within allowed outline (line ∷ lines) =
 abbrev pub with_line : Outline → List ℕ → Result Outline Refusal
 with_line outline line = line_within limits outline line
 
+-- line by line within the limits that hold
 abbrev pub with_lines : Outline → List (List ℕ) → Result Outline Refusal
 with_lines outline lines = lines_within limits outline lines
 

@@ -45,9 +45,9 @@ is_ended line = list_all is_space line.text
 
 -- a presentation's name: a letter, then letters, digits, `_` and `-`, at most so many bytes,
 -- and neither `load` nor `close`
-abbrev pub is_title : List ℕ → Bool
-is_title [] = false
-is_title (b ∷ bytes) =
+abbrev pub is_presentation_name : List ℕ → Bool
+is_presentation_name [] = false
+is_presentation_name (b ∷ bytes) =
     not (b == underscore) && (word_len is_of_attribute (b ∷ bytes) == length (b ∷ bytes))
     && nat_lt (length bytes) NAME_BYTES
     && not (list_any (bytes_eq (b ∷ bytes)) (codes "load" ∷ codes "close" ∷ []))
@@ -61,7 +61,7 @@ who_or text (Some digits) = option_map Serial (count_of digits)
 abbrev pub who_of : List ℕ → Option Who
 who_of text = who_or text (behind number_sign text)
 
--- the name of an event that comes from outside: those that the engine raises itself don't
+-- the name of an event that comes from outside: none of those that the engine raises itself
 abbrev pub event_of : List ℕ → Option (List ℕ)
 event_of text =
     if not (length text == 0) && (name_len text == length text)
@@ -109,8 +109,8 @@ event_line who line =
     event_of cut.0.text >>= λ name. at_end cut.1 (given (order.Event who name))
 
 -- an attribute's name: any word without a quote
-abbrev pub attribute_of : List ℕ → Option (List ℕ)
-attribute_of text =
+abbrev pub attribute_word_of : List ℕ → Option (List ℕ)
+attribute_word_of text =
     if not (length text == 0) && is_utf8 text && not (list_any (λ b. b == quote) text)
     then Some text
     else None
@@ -119,7 +119,7 @@ attribute_of text =
 abbrev pub unset_line : Who → Piece → Option OrderReading
 unset_line who line =
     let cut : Piece × Piece = first_of line in
-    attribute_of cut.0.text
+    attribute_word_of cut.0.text
     >>= λ name. at_end cut.1 (given (order.Unset who name (cut.0.place + 1)))
 
 -- a value between quotes, and nothing but spaces behind it
@@ -135,7 +135,7 @@ quoted line =
 abbrev pub set_line : Who → Piece → Option OrderReading
 set_line who line =
     let cut : Piece × Piece = first_of line in
-    attribute_of cut.0.text >>= λ name. quoted cut.1 >>= λ value.
+    attribute_word_of cut.0.text >>= λ name. quoted cut.1 >>= λ value.
     Some (given (order.Set who name value.0 (cut.0.place + 1) (value.1.place + 1)))
 
 -- `insert`: a place of 1 to 9 digits, and the node line to the end of the line
@@ -147,11 +147,12 @@ insert_line who line =
     if length node.text == 0 then None
     else Some (given (order.Insert who place node.text (node.place + 1)))
 
--- `key`: one byte, which is an access key
+-- one byte, which is an access key
 abbrev pub key_in : List ℕ → Option ℕ
 key_in (b ∷ []) = if is_key b then Some b else None
 key_in _ = None
 
+-- `key`: the access key
 abbrev pub key_line : Piece → Option OrderReading
 key_line line =
     let cut : Piece × Piece = first_of line in
@@ -161,7 +162,7 @@ key_line line =
 abbrev pub stack_line : Who → Piece → Option OrderReading
 stack_line who line =
     let cut : Piece × Piece = first_of line in
-    attribute_of cut.0.text >>= λ name. at_end cut.1 (given (order.Stack who name))
+    attribute_word_of cut.0.text >>= λ name. at_end cut.1 (given (order.Stack who name))
 
 -- the order behind a presentation's name, by its first word
 abbrev pub order_line : List ℕ → Piece → Option OrderReading
@@ -200,14 +201,14 @@ to name (Err refusal) = Err refusal
 abbrev pub named : (List ℕ → Read) → Piece → Option Read
 named read line =
     let cut : Piece × Piece = first_of line in
-    if is_title cut.0.text then at_end cut.1 (read cut.0.text) else None
+    if is_presentation_name cut.0.text then at_end cut.1 (read cut.0.text) else None
 
 -- a line by its first word
 abbrev pub command : Piece × Piece → Result Read Refusal
 command cut =
     if bytes_eq cut.0.text (codes "load") then or_refused (named Load cut.1)
     else (if bytes_eq cut.0.text (codes "close") then or_refused (named Close cut.1)
-    else (if is_title cut.0.text
+    else (if is_presentation_name cut.0.text
     then (let verb : Piece × Piece = first_of cut.1 in
     to cut.0.text (finish (order_line verb.0.text verb.1)))
     else Err NotACommand))

@@ -27,6 +27,7 @@ use Rattle.smil_model.specs.declared.document.Attr.TheVariants as attr
 use Rattle.smil_model.specs.declared.document.AttrName.{AttrName}
 use Rattle.smil_model.specs.declared.document.AttrName.TheVariants as name
 use Rattle.smil_model.specs.Times.{IsNear}
+use Rattle.smil_grammar.specs.declared.words.TheConstants.{ACCESS_KEY, HEADER}
 use Rattle.smil_model.specs.declared.times.Time.{Time}
 use Rattle.smil_model.specs.declared.times.Time.TheVariants as time
 use Rattle.smil_grammar.specs.Texts.{space, quote, plus, minus, point, semicolon, backslash, zero_digit}
@@ -66,7 +67,7 @@ item_text (Sync who edge offset) = escaped who ++ point ∷ (edge_text edge ++ t
 item_text (Event who name offset) = of_who who ++ (name ++ tail_text offset)
 item_text (Repeat who n offset) =
     of_who who ++ (codes "repeat(" ++ decimal n ++ codes ")" ++ tail_text offset)
-item_text (Key key offset) = codes "accesskey(" ++ (key ∷ []) ++ codes ")" ++ tail_text offset
+item_text (Key key offset) = ACCESS_KEY.now ++ (key ∷ []) ++ codes ")" ++ tail_text offset
 item_text Indefinite = codes "indefinite"
 
 -- a list: its items joined by `;`
@@ -75,11 +76,13 @@ list_text [] = []
 list_text (x ∷ []) = item_text x
 list_text (x ∷ y ∷ items) = item_text x ++ semicolon ∷ list_text (y ∷ items)
 
+-- a `dur`
 abbrev pub dur_text : Dur → List ℕ
 dur_text (dur.Clock n) = clock_text (nat_abs n)
 dur_text dur.Media = codes "media"
 dur_text dur.Indefinite = codes "indefinite"
 
+-- a time; one that is unresolved has no spelling
 abbrev pub time_text : Time → List ℕ
 time_text (time.At n) = clock_text (nat_abs n)
 time_text time.Indefinite = codes "indefinite"
@@ -93,16 +96,19 @@ decimals n =
     else (if n % 10 == 0 then point ∷ (zero_digit + n / 100) ∷ (zero_digit + n / 10 % 10) ∷ []
     else point ∷ (zero_digit + n / 100) ∷ (zero_digit + n / 10 % 10) ∷ (zero_digit + n % 10) ∷ []))
 
+-- a `repeatCount`
 abbrev pub count_text : Count → List ℕ
 count_text (count.Thousandths n) = decimal (n / 1000) ++ decimals (n % 1000)
 count_text count.Indefinite = codes "indefinite"
 
+-- a `restart`
 abbrev pub restart_text : Restart → List ℕ
 restart_text restart.Always = codes "always"
 restart_text restart.WhenNotActive = codes "whenNotActive"
 restart_text restart.Never = codes "never"
 restart_text restart.ByDefault = codes "default"
 
+-- a `fill`
 abbrev pub fill_text : Fill → List ℕ
 fill_text fill.Remove = codes "remove"
 fill_text fill.Freeze = codes "freeze"
@@ -110,12 +116,14 @@ fill_text fill.Hold = codes "hold"
 fill_text fill.Auto = codes "auto"
 fill_text fill.ByDefault = codes "default"
 
+-- a `restartDefault`
 abbrev pub restart_default_text : RestartDefault → List ℕ
 restart_default_text restart_default.Always = codes "always"
 restart_default_text restart_default.WhenNotActive = codes "whenNotActive"
 restart_default_text restart_default.Never = codes "never"
 restart_default_text restart_default.Inherit = codes "inherit"
 
+-- a `fillDefault`
 abbrev pub fill_default_text : FillDefault → List ℕ
 fill_default_text fill_default.Remove = codes "remove"
 fill_default_text fill_default.Freeze = codes "freeze"
@@ -123,12 +131,14 @@ fill_default_text fill_default.Hold = codes "hold"
 fill_default_text fill_default.Auto = codes "auto"
 fill_default_text fill_default.Inherit = codes "inherit"
 
+-- an `endsync`
 abbrev pub endsync_text : Endsync → List ℕ
 endsync_text endsync.Last = codes "last"
 endsync_text endsync.First = codes "first"
 endsync_text endsync.All = codes "all"
 endsync_text (endsync.Child id) = id
 
+-- a `peers`, `higher` or `lower`
 abbrev pub act_text : Act → List ℕ
 act_text act.Stop = codes "stop"
 act_text act.Pause = codes "pause"
@@ -212,7 +222,7 @@ saved_node_text depth kind serial attrs =
 
 -- the header of an outline with serials
 abbrev pub header_text : ℕ → List ℕ
-header_text next = codes "outline 2 next " ++ decimal next
+header_text next = HEADER.now ++ decimal next
 
 -- an item that can be written
 abbrev pub CanWrite : Item → Type 0

@@ -9,22 +9,27 @@ abbrev pub ◌>>=◌ : {A B : Type 0} → Option A → (A → Option B) → Opti
 None >>= f = None
 (Some x) >>= f = f x
 
--- the bytes that the formats give a meaning
+-- bytes that the formats give a meaning: a tab
 abbrev pub tab : ℕ
 tab = 9
 
+-- `(`
 abbrev pub open_parenthesis : ℕ
 open_parenthesis = 40
 
+-- `)`
 abbrev pub close_parenthesis : ℕ
 close_parenthesis = 41
 
+-- `+`
 abbrev pub plus : ℕ
 plus = 43
 
+-- `0`
 abbrev pub zero_digit : ℕ
 zero_digit = 48
 
+-- `:`
 abbrev pub colon : ℕ
 colon = 58
 

@@ -66,7 +66,7 @@ dur_of text =
     either (keyword ((codes "media", dur.Media) ∷ (codes "indefinite", dur.Indefinite) ∷ []) text)
     (option_map (λ n. dur.Clock (pos n)) (clock_within text))
 
--- a length of repetitions isn't 0
+-- a number that is above 0
 abbrev pub above_zero : ℕ → Option ℕ
 above_zero n = if n == 0 then None else Some n
 
@@ -85,8 +85,8 @@ abbrev pub thousandths : ℕ × ℕ → ℕ
 thousandths n = n.0 * 1000 + n.1
 
 -- a number of repetitions above 0 or `indefinite`
-abbrev pub count_of : List ℕ → Option Count
-count_of text =
+abbrev pub repeat_count_of : List ℕ → Option Count
+repeat_count_of text =
     either (keyword ((codes "indefinite", count.Indefinite) ∷ []) text)
     (option_map count.Thousandths
     (option_map thousandths (with_fraction short_number_of 100 text) >>= above_zero))
@@ -129,7 +129,7 @@ fill_default_of text =
 abbrev pub attribute_name_of : List ℕ → Option (List ℕ)
 attribute_name_of text = if is_attribute_name text then Some text else None
 
--- keywords go before ids
+-- `last`, `first`, `all` or the id of a child: keywords go before ids
 abbrev pub endsync_of : List ℕ → Option Endsync
 endsync_of text =
     either
@@ -177,7 +177,7 @@ of_list made (Err (list.Unsupported place)) = Err (UnsupportedValue place)
 of_list made (Err list.TooManyItems) = Err TooManyItems
 of_list made (Err list.Memory) = Err Memory
 
--- all other values are answered at their first byte
+-- a fault of any other value stands at its first byte
 abbrev pub of_value : {A B : Type 0} → (A → B) → Option A → Result B AttrFault
 of_value made value = ok_or (option_map made value) (BadValue 0)
 
@@ -190,7 +190,7 @@ plain_value_of in_seq name.Dur text = of_value attr.Dur (dur_of (trim text))
 plain_value_of in_seq name.End text = of_list attr.End (list_of false text)
 plain_value_of in_seq name.Min text = of_value (λ n. attr.Min (pos n)) (clock_within (trim text))
 plain_value_of in_seq name.Max text = of_value attr.Max (time_of (trim text))
-plain_value_of in_seq name.RepeatCount text = of_value attr.RepeatCount (count_of (trim text))
+plain_value_of in_seq name.RepeatCount text = of_value attr.RepeatCount (repeat_count_of (trim text))
 plain_value_of in_seq name.RepeatDur text = of_value attr.RepeatDur (repeat_dur_of (trim text))
 plain_value_of in_seq name.Restart text = of_value attr.Restart (restart_of (trim text))
 plain_value_of in_seq name.Fill text = of_value attr.Fill (fill_of (trim text))

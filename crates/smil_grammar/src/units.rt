@@ -11,3 +11,6 @@ pub const HOUR: u64 = 3_600_000;
 
 /// The billionths of one: fractions are counted in billionths.
 pub const BILLION: u64 = 1_000_000_000;
+
+/// The billionths of a tenth: digits past the ninth of a fraction count nothing.
+pub const TENTH: u64 = 100_000_000;

@@ -9,7 +9,7 @@ ghost use Rattle.smil_graph.specs.Tables.{AreElementLevels};
 ghost use Rattle.smil_graph.specs.Places.{up, is_element_at, IsTable};
 ghost use Rattle.smil_graph.specs.Ranks.{rank_of, height_under, AreHeights};
 
-use super::outline::{is_element_at, place_at};
+use super::outline::is_element;
 use super::row::number_at;
 use super::tables::serials_at;
 use smil_model::{Doc, Serials};
@@ -51,9 +51,8 @@ fn heights(alloc: Global, time_parents: &[Option<usize>]) -> Result<Vec<usize>, 
     ensures { IfOk result (λ heights. AreHeights time_parents.now heights.items) }
 {
     let mut heights = Vec::with_capacity(alloc, time_parents.len())?;
-    for place in 0..time_parents.len() {
-        let parent = place_at(time_parents, place);
-        let height = height_under(heights.as_slice(), parent, time_parents.len());
+    for parent in time_parents {
+        let height = height_under(heights.as_slice(), *parent, time_parents.len());
         heights.push(height)?;
     }
     Ok(heights)
@@ -81,8 +80,8 @@ fn ranks(
         (filter (is_element_at doc.now.nodes) (range_with_len 0 (length doc.now.nodes)))) }
 {
     let mut ranks = Vec::new(alloc);
-    for place in 0..doc.len() {
-        if is_element_at(doc, place) {
+    for (place, node) in doc.nodes().iter().enumerate() {
+        if is_element(node) {
             let level = number_at(levels, place);
             let height = number_at(heights, place);
             ranks.push(Rank {

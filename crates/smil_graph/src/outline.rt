@@ -6,7 +6,7 @@ ghost use Rattle.smil_model.specs.document.Document as model;
 ghost use Rattle.smil_model.specs.document.Valid.{IsNumberedTree};
 ghost use Rattle.smil_model.specs.reach.Reach.{is_option};
 ghost use Rattle.smil_graph.specs.Links.{row, AreRows, IsRising};
-ghost use Rattle.smil_graph.specs.Places.{up, IsTable, IsIndex, before, is_element_at, element_above, parent_by, previous_of, AreTimeChildren};
+ghost use Rattle.smil_graph.specs.Places.{up, IsTable, IsIndex, before, is_element_at, element_above, previous_of, AreTimeChildren};
 
 use super::row::{push_one, row_at};
 use super::turned::turned;
@@ -41,21 +41,10 @@ pub fn parents(
         (λ n. model.node_at doc.now.nodes n.parent) table.items) }
 {
     let mut parents = Vec::with_capacity(alloc, doc.len())?;
-    for place in 0..doc.len() {
-        let parent = parent_of(doc, places, place);
-        parents.push(parent)?;
+    for node in doc.nodes() {
+        parents.push(places.get(&node.parent).copied())?;
     }
     Ok(parents)
-}
-
-// The place of the parent of the node at a place.
-fn parent_of(doc: &Doc, places: &HashMap<u32, usize>, place: usize) -> Option<usize>
-    ensures { result ≡ parent_by (get nat_eq places.now) (slice_get doc.now.nodes place) }
-{
-    match doc.get(place) {
-        Some(node) => places.get(&node.parent).copied(),
-        None => None,
-    }
 }
 
 /// For each node the place of its time parent.
@@ -71,8 +60,8 @@ pub fn time_parents(
         (λ n. model.time_parent doc.now.nodes n.serial) table.items) }
 {
     let mut above = Vec::with_capacity(alloc, parents.len())?;
-    for place in 0..parents.len() {
-        let next = element_above(doc, place_at(parents, place), above.as_slice());
+    for parent in parents {
+        let next = element_above(doc, *parent, above.as_slice());
         above.push(next)?;
     }
     Ok(above)
@@ -141,9 +130,9 @@ fn parent_rows(
         (λ p q. is_element_at doc.now.nodes p && is_option q (up time_parents.now p)) rows.items) }
 {
     let mut rows = Vec::with_capacity(alloc, doc.len())?;
-    for place in 0..doc.len() {
+    for (place, node) in doc.nodes().iter().enumerate() {
         let mut row = GrowingList::new(alloc);
-        if is_element_at(doc, place) {
+        if is_element(node) {
             push_one(&mut row, place_at(time_parents, place))?;
         }
         rows.push(row)?;
@@ -165,9 +154,8 @@ pub fn previous_in_seqs(
         (λ n. model.previous_in_seq tree.now.doc.now.nodes n.serial) table.items) }
 {
     let mut table = Vec::with_capacity(alloc, tree.doc.len())?;
-    for place in 0..tree.doc.len() {
-        let parent = place_at(tree.parents, place);
-        let entry = previous_of(tree.doc, parent, tree.children, place);
+    for (place, parent) in tree.parents.iter().enumerate() {
+        let entry = previous_of(tree.doc, *parent, tree.children, place);
         table.push(entry)?;
     }
     Ok(table)

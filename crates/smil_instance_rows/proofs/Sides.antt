@@ -7,7 +7,6 @@ use Rattle.smil_model.specs.declared.times.Time.{Time}
 use Rattle.smil_model.specs.declared.times.Time.TheVariants.{At, Indefinite, Unresolved}
 use Rattle.smil_model.specs.Times.{numbers, rising, rising_times, time_le}
 use Rattle.smil_model.specs.interval.Instances.{number_of}
-use Rattle.smil_model.proofs.Rising.{poured_numbers, poured_times}
 use Rattle.smil_instance_rows.specs.declared.item_times.InstanceTime.{InstanceTime}
 use Rattle.smil_instance_rows.specs.Values.{times_of, begins_of, ends_of, values_of, merged}
 
@@ -37,8 +36,7 @@ numbers_of_kept (k ∷ ks) = step k.time (numbers_of_kept ks)
 
 pub begins_same : (items : List (List InstanceTime)) → merged int_le number_of items ≡ begins_of items
 begins_same items =
-    poured_numbers (flat_map (values_of number_of) items)
-    ∙ ap rising (sym (numbers_of_each times_of items ∙ flat_map_same (λ ks. numbers (times_of ks)) (values_of number_of) numbers_of_kept items))
+    ap rising (sym (numbers_of_each times_of items ∙ flat_map_same (λ ks. numbers (times_of ks)) (values_of number_of) numbers_of_kept items))
 
 -- ---- times
 
@@ -48,7 +46,7 @@ times_of_kept (k ∷ ks) = ap (λ ts. k.time ∷ ts) (times_of_kept ks)
 
 pub ends_same : (items : List (List InstanceTime)) → merged time_le Some items ≡ ends_of items
 ends_same items =
-    poured_times (flat_map (values_of Some) items) ∙ ap rising_times (flat_map_same (values_of Some) times_of times_of_kept items)
+    ap rising_times (flat_map_same (values_of Some) times_of times_of_kept items)
 
 -- ---- the first of them
 

@@ -66,8 +66,8 @@ impl Rows {
         }
     }
 
-    /// How many rows there are. It takes no memory.
-    pub fn len(&self) -> usize
+    // How many rows there are.
+    fn len(&self) -> usize
         ensures { result ≡ length self.now }
     {
         self.rows.len()

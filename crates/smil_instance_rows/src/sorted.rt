@@ -16,6 +16,18 @@ fn place_from<T: Instant>(values: &[T], value: T) -> usize
     values.partition_point(|other| other.is_before(value))
 }
 
+/// Puts a value in its place among rising ones. Where memory runs out they are as before.
+pub fn put_in<T: Instant>(values: &mut Vec<T>, value: T) -> Result<(), AllocError>
+    requires { IsRising T.at_most values.old.items }
+    ensures ok { OnOk result (values.new.items ≡ put_in T.at_most value values.old.items) }
+    ensures rising { IsRising T.at_most values.new.items }
+    ensures err { OnErr result (values.new.items ≡ values.old.items) }
+{
+    let place = place_from(values.as_slice(), value);
+    values.insert(place, value)?;
+    Ok(())
+}
+
 /// Values in rising order, repetitions kept; seen as their list.
 #[derive(Drop)]
 pub struct SortedList<T: Instant> {
@@ -56,9 +68,7 @@ impl<T: Instant> SortedList<T> {
         ensures ok { OnOk result (self.new ≡ put_in T.at_most value self.old) }
         ensures err { OnErr result (self.new ≡ self.old) }
     {
-        let place = place_from(self.values.as_slice(), value);
-        self.values.insert(place, value)?;
-        Ok(())
+        put_in(&mut self.values, value)
     }
 
     /// Takes a value out once, if it is there. It takes no memory.

@@ -21,7 +21,7 @@ use Rattle.smil_model.specs.Rising.{poured}
 use Rattle.smil_instances.specs.ExpectedTimes.{expected_before, expected_named, expected_of, AreMerged}
 use Rattle.smil_instances.proofs.Times.{heard-times, happened-times, event-times, repeat-times}
 use Rattle.smil_model.proofs.Orders.{numbers_order, times_order}
-use Rattle.smil_model.proofs.Rising.{parts_apart, poured_numbers, poured_times}
+use Rattle.smil_model.proofs.Rising.{parts_apart}
 use Rattle.smil_instance_rows.proofs.Sides.{flat_map_same, numbers_append, numbers_of_each}
 
 each_mapped : {X Y A : Type 0} (f : Y → List A) (k : X → Y) (xs : List X) → flat_map (λ x. f (k x)) xs ≡ flat_map f (map k xs)
@@ -61,13 +61,11 @@ module _ (h : History) (J : ℕ → Option Interval) (now : ℤ) where
       let is = begin_list h.nodes e in
       let kept : List ℤ = flat_map (λ i. numbers (times_of (instances_of h e Begin i))) is in
       let same : poured int_le kept [] ≡ begins_of (row_of h e).begins =
-      poured_numbers kept
-      ∙ ap rising (sym (numbers_of_each (λ i. times_of (instances_of h e Begin i)) is))
+      ap rising (sym (numbers_of_each (λ i. times_of (instances_of h e Begin i)) is))
       ∙ ap (λ ts. rising (numbers ts)) (each_mapped times_of (instances_of h e Begin) is)
       in
       ap rising (numbers_of_each (item_times h J now e Begin) is)
       ∙ ap rising (flat_map_same (λ i. numbers (item_times h J now e Begin i)) (λ i. numbers (times_of (instances_of h e Begin i)) ++ numbers (expected_of h J now e i)) (number_parts e) is)
-      ∙ sym (poured_numbers (flat_map (λ i. numbers (times_of (instances_of h e Begin i)) ++ numbers (expected_of h J now e i)) is))
       ∙ parts_apart int_le numbers_order (λ i. numbers (times_of (instances_of h e Begin i))) (λ i. numbers (expected_of h J now e i)) is
       ∙ ap (λ xs. poured int_le xs (poured int_le kept [])) (sym (numbers_of_each (expected_of h J now e) is))
       ∙ ap (poured int_le (numbers (flat_map (expected_of h J now e) is))) same
@@ -77,9 +75,8 @@ module _ (h : History) (J : ℕ → Option Interval) (now : ℤ) where
       let is = end_list e in
       let kept : List Time = flat_map (λ i. times_of (instances_of h e End i)) is in
       ap rising_times (flat_map_same (item_times h J now e End) (λ i. times_of (instances_of h e End i) ++ expected_of h J now e i) (item_parts e End) is)
-      ∙ sym (poured_times (flat_map (λ i. times_of (instances_of h e End i) ++ expected_of h J now e i) is))
       ∙ parts_apart time_le times_order (λ i. times_of (instances_of h e End i)) (expected_of h J now e) is
-      ∙ ap (poured time_le (flat_map (expected_of h J now e) is)) (poured_times kept ∙ ap rising_times (each_mapped times_of (instances_of h e End) is))
+      ∙ ap (poured time_le (flat_map (expected_of h J now e) is)) (ap rising_times (each_mapped times_of (instances_of h e End) is))
 
   pub are_merged : (e : Node) → AreMerged h J now e
   are_merged e = record { begins = begins_merged e; ends = ends_merged e }

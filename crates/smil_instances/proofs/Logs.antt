@@ -16,7 +16,8 @@ use Rattle.smil_model.specs.Times.{within_horizon}
 use Rattle.smil_model.specs.document.Document.{previous_in_seq, element_named, target}
 use Rattle.smil_model.specs.diary.Diary.{History, birth, with_past, up_to}
 use Rattle.smil_model.specs.diary.Clocks.{outer}
-use Rattle.smil_model.specs.interval.Instances.{hears, is_event, is_log_event, is_log_key, is_press}
+use Rattle.smil_model.specs.reach.Reach.{is_option, logged_key}
+use Rattle.smil_model.specs.interval.Instances.{hears, is_event, is_log_event, is_press}
 use Rattle.smil_instance_rows.specs.Rows.{at_place, from_place}
 use Rattle.smil_instances.specs.SettledTimes.{heard_time, offset_instances, named_instances, event_instances, instances_of, occurs_event, occurs_key}
 use Rattle.smil_instances.proofs.Places.{placed}
@@ -31,7 +32,7 @@ same_event log more x name (Logged place) q = ap (is_log_event x name) q
 same_event log more x name _ q = refl
 
 same_press : (log more : List LogEntry) (key : ℕ) (step : Step) → IsSameHeard log more step → is_press more key step ≡ is_press log key step
-same_press log more key (Logged place) q = ap (is_log_key key) q
+same_press log more key (Logged place) q = ap (λ o. is_option key (logged_key o)) q
 same_press log more key _ q = refl
 
 module _ (h : History) (more : List LogEntry) where

@@ -25,7 +25,7 @@ use Rattle.smil_instances.specs.SettledTimes.{instances_of}
 use Rattle.smil_instances.specs.Sources.{eventbase, is_concerned, is_keyed, source_of, syncbase_or}
 use Rattle.smil_instances.specs.Updates.{concerned_by}
 use Rattle.smil_instances.proofs.Untouched.{kept_stays}
-use Rattle.smil_model.specs.interval.Instances.{is_press, is_pressed, is_log_key}
+use Rattle.smil_model.specs.interval.Instances.{is_press}
 use Rattle.smil_model.specs.happening.Queue.{is_child_of}
 use Rattle.smil_laws.proofs.Lineages.{swap_eqb}
 use Rattle.smil_laws.specs.Resolved.{is_opening}
@@ -77,12 +77,12 @@ lone_edge log _ x _ on = refl
 no_press : (log : List LogEntry) (step : Step) (x key : ℕ) → subject_of log step ≡ Some x → is_press log key step ≡ false
 no_press log (Logged place) x key q = by_entry (slice_get log place) q
   where
-    by_what : (w : Happening) → subject w ≡ Some x → is_pressed key w ≡ false
+    by_what : (w : Happening) → subject w ≡ Some x → is_option key (pressed w) ≡ false
     by_what (happening.Event who name) r = refl
     by_what (happening.Media who len) r = refl
     by_what (happening.Key own) r = cc
 
-    by_entry : (o : Option LogEntry) → logged_subject o ≡ Some x → is_log_key key o ≡ false
+    by_entry : (o : Option LogEntry) → logged_subject o ≡ Some x → is_option key (logged_key o) ≡ false
     by_entry None r = refl
     by_entry (Some entry) r = by_what entry.what r
 no_press log _ x key q = refl
@@ -126,17 +126,11 @@ module _ (log : List LogEntry) (step : Step) (x : ℕ) (on : subject_of log step
 
 -- a step that presses no key of the source
 lone_press : (log : List LogEntry) (step : Step) (key : ℕ) → is_keyed (key_of log step) (source.Key key) ≡ false → is_press log key step ≡ false
-lone_press log (Logged place) key q = by_entry (slice_get log place) q
+lone_press log step key q = by_key (key_of log step) q
   where
-    by_what : (w : Happening) → is_keyed (pressed w) (source.Key key) ≡ false → is_pressed key w ≡ false
-    by_what (happening.Event who name) r = refl
-    by_what (happening.Media who len) r = refl
-    by_what (happening.Key own) r = swap_eqb key own r
-
-    by_entry : (o : Option LogEntry) → is_keyed (logged_key o) (source.Key key) ≡ false → is_log_key key o ≡ false
-    by_entry None r = refl
-    by_entry (Some entry) r = by_what entry.what r
-lone_press log _ key q = refl
+    by_key : (o : Option ℕ) → is_keyed o (source.Key key) ≡ false → is_option key o ≡ false
+    by_key None r = refl
+    by_key (Some own) r = r
 
 lone_spared : (nodes : List Node) (log : List LogEntry) (step : Step) (e : ℕ) (s : Source) → subject_of log step ≡ None → is_keyed (key_of log step) s ≡ false → reaches nodes log step e s ≡ false
 lone_spared nodes log step e source.Start on q = lone_birth log step (time_parent nodes e) on

@@ -3,8 +3,7 @@
 ghost use Rattle.std.specs.Prelude.{◌≡◌, ◌+ℤ◌, ◌-ℤ◌};
 ghost use Rattle.smil_model.specs.Times.{within_horizon};
 
-use smil_duration::capped;
-use smil_model::Time;
+use smil_model::{Time, capped};
 
 /// The time `offset` milliseconds after a value on a clock that shows `from` now, on a clock that
 /// shows `to` now. It takes no memory.

@@ -23,9 +23,8 @@ use super::sensitivity::hears;
 use super::source::Source;
 use super::starts::start_time;
 use super::syncbase::Syncbase;
-use smil_duration::moved;
 use smil_instance_rows::InstanceTime;
-use smil_model::{Item, Time};
+use smil_model::{Item, Time, moved};
 
 /// What the last entry of the book gives to an item of a begin or end list, by the clocks before
 /// that entry: a time in milliseconds on the clock of the time parent of the item's element, kept

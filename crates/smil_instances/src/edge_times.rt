@@ -8,8 +8,7 @@ ghost use Rattle.smil_instances.specs.Contribution.{AreClocksAt};
 
 use super::carried::carried;
 use super::syncbase::Syncbase;
-use smil_duration::moved;
-use smil_model::{Edge, Entry, Step, Time};
+use smil_model::{Edge, Entry, Step, Time, moved};
 use smil_stretch::Clocks;
 
 /// The time that an entry gives to an item of `who` for the begins, or for the ends and cuts, that

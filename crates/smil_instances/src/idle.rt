@@ -20,7 +20,7 @@ use super::dependents::Dependents;
 use super::elements::elements;
 use super::source::Source;
 use smil_instance_rows::{Cell, InstanceRow, InstanceTime, Rows};
-use smil_model::{Edge, Item, Items, Time, later};
+use smil_model::{Edge, Item, Items, Time, moved};
 use smil_tree::Tree;
 use std::alloc::{AllocError, Global};
 
@@ -198,7 +198,7 @@ fn time_from_start(source: Source, offset: i64) -> Option<Time>
     ensures nothing { source ≡ from.Nothing → result ≡ None }
 {
     match source {
-        Source::Start => Some(later(Time::At(0), offset)),
+        Source::Start => Some(moved(0, offset)),
         _ => None,
     }
 }

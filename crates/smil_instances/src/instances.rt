@@ -69,8 +69,7 @@ impl Duplicate for Instances {
 
 impl Instances {
     /// The instance times of a document to which nothing has happened yet, unless memory runs out.
-    /// The graph is that of the tree. It takes memory for each item and for each element that an
-    /// item names.
+    /// The graph is that of the tree. It takes memory for each element and for each item.
     // An item names at most one element, so that the tree alone tells what each follows from.
     pub fn new(alloc: Global, tree: &Tree, _graph: &Graph) -> Result<Instances, AllocError>
         requires { _graph.now.nodes ≡ tree.now.nodes }

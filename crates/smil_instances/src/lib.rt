@@ -30,14 +30,9 @@ mod starts;
 mod steps;
 mod syncbase;
 
-pub use arrival::Arrival;
-pub use contribution::given;
 pub use dependents::Dependents;
 pub use history::DocumentHistory;
 pub use instances::Instances;
-pub use items::ListItem;
-pub use occurrence::occurs;
-pub use sensitivity::hears;
 pub use source::Source;
 pub use sources::{element_named, element_of, parent_of};
 pub use steps::{key, subject};

@@ -4,7 +4,7 @@ ghost use Rattle.std.specs.Prelude.{◌≡◌, ◌<◌, ℕ, List, length, true,
 ghost use Rattle.smil_model.specs.declared.diary.Entry.{Entry as AnyEntry};
 ghost use Rattle.smil_model.specs.diary.Diary.{History};
 ghost use Rattle.smil_model.specs.diary.Lawful.{has_element};
-ghost use Rattle.smil_model.specs.interval.Instances.{is_event as event_in, is_log_event, is_log_key, is_press as press_in, is_repeat as repeat_in};
+ghost use Rattle.smil_model.specs.interval.Instances.{is_event as event_in, is_log_event, is_press as press_in, is_repeat as repeat_in};
 ghost use Rattle.smil_stretch.specs.declared.clock.NodeClock.{NodeClock};
 ghost use Rattle.smil_instances.specs.Before.{IsBefore};
 ghost use Rattle.smil_instances.specs.Entry.{IsAtHand, IsEntryOf};
@@ -13,6 +13,7 @@ ghost use Rattle.smil_instances.specs.Occurrence.{occurs_in};
 use super::arrival::Arrival;
 use super::before::{last_entry, repeated_iteration};
 use super::history::DocumentHistory;
+use super::steps;
 use smil_diary::Book;
 use smil_model::{Happening, Item, Log, LogEntry, Step};
 use smil_tree::Tree;
@@ -73,24 +74,9 @@ fn is_logged(log: &Log, of: u32, name: &[u8], place: usize) -> bool
 fn is_press(log: &Log, key: u8, step: Step) -> bool
     ensures { result ≡ press_in log.now key step }
 {
-    match step {
-        Step::Logged { place } => is_logged_key(log, key, place as usize),
-        _ => false,
-    }
-}
-
-// Whether the log entry at a place is a press of the key.
-fn is_logged_key(log: &Log, key: u8, place: usize) -> bool
-    ensures { result ≡ is_log_key key (slice_get log.now place) }
-{
-    match log.get(place) {
-        Some(
-            LogEntry {
-                what: Happening::Key { key: own },
-                ..
-            },
-        ) => *own == key,
-        _ => false,
+    match steps::key(log, step) {
+        Some(own) => key == own,
+        None => false,
     }
 }
 

@@ -24,12 +24,12 @@ use smil_model::{Bytes, Edge, Item, Restart};
 use smil_tree::Tree;
 
 /// Whether an element hears an event for an item of its begin list or end list, by what had
-/// happened before the last entry of the book (SMIL 3.0 Timing, event sensitivity). The element
-/// hears none while its time parent is not active or the clock of its time parent stands. While it
-/// is not active it hears its begin items alone. While it is active, one that may always restart
-/// hears its begin items, and those end items that are for no event of a begin item, and any other
-/// hears its end items alone. An access key is heard as an event is. `of` is the element that an
-/// event or repeat item means; a key is on none. It takes no memory.
+/// happened before the last entry of the book. The element hears none while its time parent is
+/// not active or the clock of its time parent stands. While it is not active it hears its begin
+/// items alone. While it is active, one that may always restart hears its begin items, and those
+/// end items that are for no event of a begin item, and any other hears its end items alone. An
+/// access key is heard as an event is. `of` is the element that an event or repeat item means; a
+/// key is on none. It takes no memory. SMIL 3.0, "Event sensitivity".
 pub fn hears(arrival: &Arrival<'_>, own: &ListItem<'_>, of: Option<u32>) -> bool
     requires hand { (log : List LogEntry) × IsAtHand arrival.now.history.tree.now
         arrival.now.clocks.now log arrival.now.history.book.now }

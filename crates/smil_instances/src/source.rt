@@ -2,7 +2,7 @@
 
 use smil_model::Edge;
 
-/// What the times of an item follow from (SMIL 3.0 Timing, the forms of begin and end values).
+/// What the times of an item follow from. SMIL 3.0, "The begin and end attributes".
 #[derive(Clone, Copy)]
 pub enum Source {
     /// The start of the time parent's iteration.

@@ -9,9 +9,8 @@ ghost use Rattle.smil_model.specs.Times.{IsMoment};
 ghost use Rattle.smil_instances.specs.Contribution.{AreClocksAt};
 
 use super::carried::carried;
-use smil_duration::moved;
 use smil_instance_rows::InstanceTime;
-use smil_model::{Entry, Step};
+use smil_model::{Entry, Step, moved};
 use smil_stretch::Clocks;
 
 /// What an entry gives to an item with this offset from the start of the iteration of its element's

@@ -7,8 +7,8 @@ ghost use Rattle.smil_interval.specs.Rising.{IsRising, IsRisingTimes};
 ghost use Rattle.smil_interval.specs.Next.{interval_to};
 
 use super::rising::{after, counting};
-use smil_duration::{Bounds, moved};
-use smil_model::{EndList, Facts, Interval, Restart, Time, greatest, later, least};
+use smil_duration::Bounds;
+use smil_model::{EndList, Facts, Interval, Restart, Time, greatest, later, least, moved};
 
 /// The interval that begins at `begin`, None where no interval begins there.
 pub fn interval_at(facts: &Facts, begins: &[i64], ends: &[Time], begin: i64) -> Option<Interval>

@@ -1,7 +1,7 @@
 //! SMIL's interval of one element: the first and next intervals, and that of its present play.
 #![tactic(auto)]
 
-ghost use Rattle.std.specs.Prelude.{◌≡◌, ◌+◌, ◌<◌};
+ghost use Rattle.std.specs.Prelude.{◌≡◌, ◌↔◌, ◌+◌, ◌<◌, IsTrue};
 ghost use Rattle.smil_model.specs.interval.Intervals.{interval_of, coming_interval};
 ghost use Rattle.smil_interval.specs.Rising.{IsRising, IsRisingTimes};
 
@@ -63,4 +63,11 @@ fn coming(begins: &[i64], ends: &[Time], facts: &Facts) -> Option<Interval>
         None => first_interval(begins, ends, facts),
         Some(_) => next_interval(begins, ends, facts),
     }
+}
+
+/// Whether two intervals, of which either may be absent, are the same. It takes no memory.
+pub fn is_same_interval(one: Option<Interval>, other: Option<Interval>) -> bool
+    ensures { IsTrue result ↔ (one ≡ other) }
+{
+    one == other
 }

@@ -8,12 +8,14 @@ use Rattle.std.proofs.lemmas.List.{append-nil}
 use Rattle.smil_model.specs.declared.diary.Entry.{Entry}
 use Rattle.smil_model.specs.declared.diary.LogEntry.{LogEntry}
 use Rattle.smil_model.specs.declared.diary.Step.TheVariants.{Logged}
+use Rattle.smil_model.specs.declared.diary.StepKind.TheVariants as kind
 use Rattle.smil_model.specs.declared.document.Node.{Node}
 use Rattle.smil_model.specs.happening.Keys.{DueChange, coming, first_coming, is_due}
 use Rattle.smil_model.specs.happening.Groups.{group}
 use Rattle.smil_model.specs.happening.Resolution.{Course, Progress, outset, history_at, after_quiet, after_settling, after_coming, next_step, after_steps}
 use Rattle.smil_laws.specs.Agreement.{DifferBelow, SparesAll, is_on, course_on}
-use Rattle.smil_model.specs.reach.Bounds.{is_begin_of, has_begun}
+use Rattle.smil_model.specs.diary.Diary.{is_step}
+use Rattle.smil_model.specs.reach.Bounds.{has_begun}
 use Rattle.smil_laws.proofs.Aside.{NamesAlike, names_itself, each_append}
 use Rattle.smil_laws.proofs.AsideKeys.{bare, least_same, least_kept}
 use Rattle.smil_laws.proofs.AsideGroups.{group_same, group_spares}
@@ -60,7 +62,7 @@ module _ (P : List Entry → Type 0) (c : Course) (q : Progress) (nothing : P []
 -- ---- what has begun stays so
 
 begun_more : (xs ys : List Entry) (p : ℕ) → has_begun (xs ++ ys) p ≡ false → has_begun xs p ≡ false
-begun_more xs ys p q = (or_parts _ _ (sym (list_any-append (λ (x : Entry). is_begin_of p x.step) xs ys) ∙ q)).0
+begun_more xs ys p q = (or_parts _ _ (sym (list_any-append (λ (x : Entry). is_step kind.Began p x.step) xs ys) ∙ q)).0
 
 begun_step : (c : Course) (p : ℕ) (q r : Progress) → next_step c q ≡ Some r → has_begun r.diary p ≡ false → has_begun q.diary p ≡ false
 begun_step c p q r e never =

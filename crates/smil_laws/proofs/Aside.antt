@@ -11,14 +11,16 @@ use Rattle.smil_model.specs.declared.diary.LogEntry.{LogEntry}
 use Rattle.smil_model.specs.declared.interval.Interval.{Interval}
 use Rattle.smil_model.specs.declared.diary.Step.{Step}
 use Rattle.smil_model.specs.declared.diary.Step.TheVariants.{Began, Ended, Cut, Logged}
+use Rattle.smil_model.specs.declared.diary.StepKind.TheVariants as kind
 use Rattle.smil_model.specs.declared.document.Node.{Node}
 use Rattle.smil_model.specs.declared.document.Item.{Item}
 use Rattle.smil_model.specs.document.Document.{is_element, elements, node_at, upwards, time_parent, has_serial, is_time_child}
-use Rattle.smil_model.specs.diary.Diary.{is_active, active_after, is_alive, lives_under, with_past}
-use Rattle.smil_model.specs.interval.Instances.{is_event, is_log_event, is_log_key, is_press}
+use Rattle.smil_model.specs.diary.Diary.{is_active, active_after, is_alive, lives_under, with_past, is_step}
+use Rattle.smil_model.specs.interval.Instances.{is_event, is_log_event, is_press}
 use Rattle.smil_model.specs.interval.Current.{interval_given, length_after, length_of, media_length}
 use Rattle.smil_laws.specs.Agreement.{IsPlaced, IsAside, is_on, SparesAll}
-use Rattle.smil_model.specs.reach.Bounds.{is_begin_of, has_begun}
+use Rattle.smil_model.specs.reach.Bounds.{has_begun}
+use Rattle.smil_model.specs.reach.Reach.{is_option, logged_key}
 use Rattle.smil_laws.proofs.Kept.{KeepsParents}
 
 -- ---- lists
@@ -105,7 +107,7 @@ with_past_each P before (x ∷ xs) p = (p.0, with_past_each P (before ++ x ∷ [
 pub inactive : (ds : List Entry) (s : ℕ) → has_begun ds s ≡ false → is_active ds s ≡ false
 inactive ds s q = go ds q
   where
-    step : (x : Step) → is_begin_of s x ≡ false → active_after s false x ≡ false
+    step : (x : Step) → is_step kind.Began s x ≡ false → active_after s false x ≡ false
     step (Began who begin) q = ap (λ t. t || false) q
     step (Ended who end') q = same (who == s)
       where
@@ -122,7 +124,7 @@ inactive ds s q = go ds q
     go : (xs : List Entry) → has_begun xs s ≡ false → is_active xs s ≡ false
     go [] q = refl
     go (x ∷ xs) q =
-        let parts = or_parts (is_begin_of s x.step) (has_begun xs s) q in
+        let parts = or_parts (is_step kind.Began s x.step) (has_begun xs s) q in
         ap (λ b. fold (λ before (y : Entry). active_after s before y.step) b xs) (step x.step parts.0) ∙ go xs parts.1
 
 -- two logs that agree on the places that a diary names
@@ -148,7 +150,7 @@ module _ (log1 log2 : List LogEntry) where
   event_same x name _ q = refl
 
   pub press_same : (key : ℕ) (step : Step) → SameLogged log1 log2 step → is_press log1 key step ≡ is_press log2 key step
-  press_same key (Logged place) q = ap (is_log_key key) q
+  press_same key (Logged place) q = ap (λ o. is_option key (logged_key o)) q
   press_same key _ q = refl
 
   length_same : (s : ℕ) (before : Option Time) (step : Step) → SameLogged log1 log2 step → length_after log1 s before step ≡ length_after log2 s before step
@@ -200,7 +202,7 @@ module _ (aside : ℕ → Bool) (p : ℕ) where
   spared [] s free a = refl
   spared (x ∷ xs) s free a = by_step x.step free.0 ∙ spared xs s free.1 a
     where
-      by_step : (step : Step) → is_on aside step ≡ false → (is_begin_of s step || has_begun xs s) ≡ has_begun xs s
+      by_step : (step : Step) → is_on aside step ≡ false → (is_step kind.Began s step || has_begun xs s) ≡ has_begun xs s
       by_step (Began who begin) q = ap (λ t. t || has_begun xs s) (other_who who s q a)
       by_step _ q = refl
 

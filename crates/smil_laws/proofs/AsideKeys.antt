@@ -14,6 +14,7 @@ use Rattle.smil_model.specs.diary.Diary.{History, is_active}
 use Rattle.smil_model.specs.Times.{later_time}
 use Rattle.smil_model.specs.diary.Clocks.{stands, outer_stands, iteration_start}
 use Rattle.smil_model.specs.interval.Current.{simple_of, table, in_table}
+use Rattle.smil_model.specs.declared.happening.TheConstants.{BEGIN_CLASS}
 use Rattle.smil_model.specs.happening.Keys.{DueChange, coming_begin, coming_end_at, coming_end, coming_repeat_at, coming_repeat, coming_of, coming_from, coming, comes_before, earlier_coming, first_coming}
 use Rattle.smil_laws.specs.Agreement.{DifferBelow, SparesAll}
 use Rattle.smil_model.specs.reach.Bounds.{has_begun}
@@ -55,17 +56,17 @@ repeat_at_place h now q e d _ = refl
 keys_place : (h : History) (J : ℕ → Option Interval) (now : ℤ) (q : ℕ) (e : Node) → coming_of h J now q e ≡ map (put q) (coming_of h J now 0 e)
 keys_place h J now q e =
     cond_map (put q) (is_active h.diary e.serial)
-    (cond (outer_stands h e.serial) [] (coming_end h now q e (J e.serial)) ++ coming_repeat h J now q e)
+    (cond (outer_stands h e.serial) [] (coming_end h now q e (J e.serial)) ++ coming_repeat h (simple_of h J e) now q e)
     (cond (outer_stands h e.serial) [] (coming_begin h now q e (J e.serial)))
-    (cond (outer_stands h e.serial) [] (coming_end h now 0 e (J e.serial)) ++ coming_repeat h J now 0 e)
+    (cond (outer_stands h e.serial) [] (coming_end h now 0 e (J e.serial)) ++ coming_repeat h (simple_of h J e) now 0 e)
     (cond (outer_stands h e.serial) [] (coming_begin h now 0 e (J e.serial)))
-    (ap (λ ks. ks ++ coming_repeat h J now q e) ends ∙ ap (λ ks. map (put q) (cond (outer_stands h e.serial) [] (coming_end h now 0 e (J e.serial))) ++ ks) repeats ∙ sym (map_append (put q) (cond (outer_stands h e.serial) [] (coming_end h now 0 e (J e.serial))) (coming_repeat h J now 0 e)))
+    (ap (λ ks. ks ++ coming_repeat h (simple_of h J e) now q e) ends ∙ ap (λ ks. map (put q) (cond (outer_stands h e.serial) [] (coming_end h now 0 e (J e.serial))) ++ ks) repeats ∙ sym (map_append (put q) (cond (outer_stands h e.serial) [] (coming_end h now 0 e (J e.serial))) (coming_repeat h (simple_of h J e) now 0 e)))
     (cond_map (put q) (outer_stands h e.serial) [] (coming_begin h now q e (J e.serial)) [] (coming_begin h now 0 e (J e.serial)) refl (begin_place h now q e (J e.serial)))
   where
     ends : cond (outer_stands h e.serial) [] (coming_end h now q e (J e.serial)) ≡ map (put q) (cond (outer_stands h e.serial) [] (coming_end h now 0 e (J e.serial)))
     ends = cond_map (put q) (outer_stands h e.serial) [] (coming_end h now q e (J e.serial)) [] (coming_end h now 0 e (J e.serial)) refl (end_place h now q e (J e.serial))
 
-    repeats : coming_repeat h J now q e ≡ map (put q) (coming_repeat h J now 0 e)
+    repeats : coming_repeat h (simple_of h J e) now q e ≡ map (put q) (coming_repeat h (simple_of h J e) now 0 e)
     repeats =
         cond_map (put q) ((is_some e.attrs.repeat_count || is_some e.attrs.repeat_dur) && not (stands h e.serial)) (coming_repeat_at h now q e (simple_of h J e) (later_time (simple_of h J e) (iteration_start h e.serial))) [] (coming_repeat_at h now 0 e (simple_of h J e) (later_time (simple_of h J e) (iteration_start h e.serial))) []
         (repeat_at_place h now q e (simple_of h J e) (later_time (simple_of h J e) (iteration_start h e.serial))) refl
@@ -109,7 +110,7 @@ order_same late same p1 p2 x1 x2 (inr e) = order_eq late same p1 x1 e.0 ∙ sym 
 comes_same : (next l : DueChange) (p1 p2 x1 x2 : ℕ) → UpTo p1 p2 x1 x2 → comes_before (put p1 next).key (put x1 l).key ≡ comes_before (put p2 next).key (put x2 l).key
 comes_same next l p1 p2 x1 x2 u =
     ap (λ t. int_lt next.key.value l.key.value || (int_le next.key.value l.key.value && (nat_lt next.key.class l.key.class || ((next.key.class == l.key.class) && t))))
-    (order_same (next.key.class == 2) (not (next.key.repeat) && l.key.repeat) p1 p2 x1 x2 u)
+    (order_same (next.key.class == BEGIN_CLASS) (not (next.key.repeat) && l.key.repeat) p1 p2 x1 x2 u)
 
 twin_step : (next : DueChange) (p1 p2 : ℕ) (o1 o2 : Option DueChange) → Twins (UpTo p1 p2) o1 o2 → Twins (UpTo p1 p2) (earlier_coming o1 (put p1 next)) (earlier_coming o2 (put p2 next))
 twin_step next p1 p2 o1 o2 t = by_core t.core t.left t.right t.places
@@ -171,7 +172,7 @@ twins_bare t = ap bare t.left ∙ bare_put t.x1 t.core ∙ sym (bare_put t.x2 t.
 keys_serial : (h : History) (J : ℕ → Option Interval) (now : ℤ) (q : ℕ) (e : Node) → AllByRecursion (λ (next : DueChange). next.key.serial ≡ e.serial) (coming_of h J now q e)
 keys_serial h J now q e =
     either (is_active h.diary e.serial) _ _
-    (each_append (λ (next : DueChange). next.key.serial ≡ e.serial) (cond (outer_stands h e.serial) [] (coming_end h now q e (J e.serial))) (coming_repeat h J now q e)
+    (each_append (λ (next : DueChange). next.key.serial ≡ e.serial) (cond (outer_stands h e.serial) [] (coming_end h now q e (J e.serial))) (coming_repeat h (simple_of h J e) now q e)
     (either (outer_stands h e.serial) [] (coming_end h now q e (J e.serial)) tt (ends (J e.serial)))
     (either ((is_some e.attrs.repeat_count || is_some e.attrs.repeat_dur) && not (stands h e.serial)) (coming_repeat_at h now q e (simple_of h J e) (later_time (simple_of h J e) (iteration_start h e.serial))) [] (repeats (simple_of h J e) (later_time (simple_of h J e) (iteration_start h e.serial))) tt))
     (either (outer_stands h e.serial) [] (coming_begin h now q e (J e.serial)) tt (begins (J e.serial)))
@@ -235,7 +236,7 @@ module _ (aside : ℕ → Bool) (p : ℕ) (n1 n2 : List Node) (differ : DifferBe
 
   no_keys : (h : History) → h.diary ≡ ds → (J : ℕ → Option Interval) → ((s : ℕ) → aside s ≡ true → J s ≡ None) → (e : Node) (q : ℕ) → aside e.serial ≡ true → coming_of h J now q e ≡ []
   no_keys h d J none e q a =
-      ap (λ t. cond t (cond (outer_stands h e.serial) [] (coming_end h now q e (J e.serial)) ++ coming_repeat h J now q e) (cond (outer_stands h e.serial) [] (coming_begin h now q e (J e.serial))))
+      ap (λ t. cond t (cond (outer_stands h e.serial) [] (coming_end h now q e (J e.serial)) ++ coming_repeat h (simple_of h J e) now q e) (cond (outer_stands h e.serial) [] (coming_begin h now q e (J e.serial))))
       (ap (λ xs. is_active xs e.serial) d ∙ inactive ds e.serial (spared aside p ds e.serial free a))
       ∙ ap (λ o. cond (outer_stands h e.serial) [] (coming_begin h now q e o)) (none e.serial a)
       ∙ both (outer_stands h e.serial)
@@ -262,7 +263,7 @@ module _ (aside : ℕ → Bool) (p : ℕ) (n1 n2 : List Node) (differ : DifferBe
         rw (iteration_start_same k n1 n2 differ.same (closed aside p n1 differ.in_old) (closed aside p n2 differ.in_new) log1 log2 ds e.serial (ap not a), play_start_same k n1 n2 differ.same (closed aside p n1 differ.in_old) (closed aside p n2 differ.in_new) log1 log2 ds e.serial (ap not a), iteration_same k n1 n2 differ.same (closed aside p n1 differ.in_old) (closed aside p n2 differ.in_new) log1 log2 ds e.serial (ap not a), own_same k n1 n2 differ.same (closed aside p n1 differ.in_old) (closed aside p n2 differ.in_new) log1 log2 ds e.serial now (ap not a))
     repeat_at_same d _ = refl
 
-    repeat_same : coming_repeat h1 J1 now q e ≡ coming_repeat h2 J2 now q e
+    repeat_same : coming_repeat h1 (simple_of h1 J1 e) now q e ≡ coming_repeat h2 (simple_of h2 J2 e) now q e
     repeat_same =
         ap (λ t. cond ((is_some e.attrs.repeat_count || is_some e.attrs.repeat_dur) && not t) (coming_repeat_at h1 now q e (simple_of h1 J1 e) (later_time (simple_of h1 J1 e) (iteration_start h1 e.serial))) []) (held_same k n1 n2 differ.same (closed aside p n1 differ.in_old) (closed aside p n2 differ.in_new) log1 log2 ds ds e.serial (ap not a))
         ∙ ap (λ ks. cond ((is_some e.attrs.repeat_count || is_some e.attrs.repeat_dur) && not (stands h2 e.serial)) ks [])
@@ -272,11 +273,11 @@ module _ (aside : ℕ → Bool) (p : ℕ) (n1 n2 : List Node) (differ : DifferBe
 
     keys_same : coming_of h1 J1 now q e ≡ coming_of h2 J2 now q e
     keys_same =
-        ap (λ t. cond (is_active ds e.serial) (cond t [] (coming_end h1 now q e (J1 e.serial)) ++ coming_repeat h1 J1 now q e) (cond t [] (coming_begin h1 now q e (J1 e.serial)))) (parent_held_same k n1 n2 differ.same (closed aside p n1 differ.in_old) (closed aside p n2 differ.in_new) log1 log2 ds e.serial (ap not a))
-        ∙ ap (λ o. cond (is_active ds e.serial) (cond (outer_stands h2 e.serial) [] (coming_end h1 now q e o) ++ coming_repeat h1 J1 now q e) (cond (outer_stands h2 e.serial) [] (coming_begin h1 now q e o))) (agree e.serial)
-        ∙ ap (λ ks. cond (is_active ds e.serial) (cond (outer_stands h2 e.serial) [] ks ++ coming_repeat h1 J1 now q e) (cond (outer_stands h2 e.serial) [] (coming_begin h1 now q e (J2 e.serial)))) (end_same (J2 e.serial))
+        ap (λ t. cond (is_active ds e.serial) (cond t [] (coming_end h1 now q e (J1 e.serial)) ++ coming_repeat h1 (simple_of h1 J1 e) now q e) (cond t [] (coming_begin h1 now q e (J1 e.serial)))) (parent_held_same k n1 n2 differ.same (closed aside p n1 differ.in_old) (closed aside p n2 differ.in_new) log1 log2 ds e.serial (ap not a))
+        ∙ ap (λ o. cond (is_active ds e.serial) (cond (outer_stands h2 e.serial) [] (coming_end h1 now q e o) ++ coming_repeat h1 (simple_of h1 J1 e) now q e) (cond (outer_stands h2 e.serial) [] (coming_begin h1 now q e o))) (agree e.serial)
+        ∙ ap (λ ks. cond (is_active ds e.serial) (cond (outer_stands h2 e.serial) [] ks ++ coming_repeat h1 (simple_of h1 J1 e) now q e) (cond (outer_stands h2 e.serial) [] (coming_begin h1 now q e (J2 e.serial)))) (end_same (J2 e.serial))
         ∙ ap (λ ks. cond (is_active ds e.serial) (cond (outer_stands h2 e.serial) [] (coming_end h2 now q e (J2 e.serial)) ++ ks) (cond (outer_stands h2 e.serial) [] (coming_begin h1 now q e (J2 e.serial)))) repeat_same
-        ∙ ap (λ ks. cond (is_active ds e.serial) (cond (outer_stands h2 e.serial) [] (coming_end h2 now q e (J2 e.serial)) ++ coming_repeat h2 J2 now q e) (cond (outer_stands h2 e.serial) [] ks)) (begin_same (J2 e.serial))
+        ∙ ap (λ ks. cond (is_active ds e.serial) (cond (outer_stands h2 e.serial) [] (coming_end h2 now q e (J2 e.serial)) ++ coming_repeat h2 (simple_of h2 J2 e) now q e) (cond (outer_stands h2 e.serial) [] ks)) (begin_same (J2 e.serial))
 
   all_same : (ns : List Node) (q : ℕ) → AllByRecursion (λ (n : Node). aside n.serial ≡ false) ns → coming_from h1 J1 now q ns ≡ coming_from h2 J2 now q ns
   all_same [] q each = refl

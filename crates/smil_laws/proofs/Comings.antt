@@ -114,7 +114,7 @@ module _ (nodes : List Node) (o : IsOrdered nodes) (log : List LogEntry) (now : 
     repeat_at_may place e simple Indefinite active = tt
     repeat_at_may place e simple Unresolved active = tt
 
-    repeat_may : (place : ℕ) (e : Node) → is_active ds e.serial ≡ true → AllByRecursion May (coming_repeat h J now place e)
+    repeat_may : (place : ℕ) (e : Node) → is_active ds e.serial ≡ true → AllByRecursion May (coming_repeat h (simple_of h J e) now place e)
     repeat_may place e active =
         each_choice ((is_some e.attrs.repeat_count || is_some e.attrs.repeat_dur) && not (stands h e.serial))
         (coming_repeat_at h now place e (simple_of h J e) (later_time (simple_of h J e) (iteration_start h e.serial))) []
@@ -123,9 +123,9 @@ module _ (nodes : List Node) (o : IsOrdered nodes) (log : List LogEntry) (now : 
     element_may : (place : ℕ) (e : Node) → has_element nodes e.serial ≡ true → AllByRecursion May (coming_of h J now place e)
     element_may place e known =
         each_choice (is_active ds e.serial)
-        (cond (outer_stands h e.serial) [] (coming_end h now place e (J e.serial)) ++ coming_repeat h J now place e)
+        (cond (outer_stands h e.serial) [] (coming_end h now place e (J e.serial)) ++ coming_repeat h (simple_of h J e) now place e)
         (cond (outer_stands h e.serial) [] (coming_begin h now place e (J e.serial)))
-        (λ active. each_append May (cond (outer_stands h e.serial) [] (coming_end h now place e (J e.serial))) (coming_repeat h J now place e)
+        (λ active. each_append May (cond (outer_stands h e.serial) [] (coming_end h now place e (J e.serial))) (coming_repeat h (simple_of h J e) now place e)
         (each_choice (outer_stands h e.serial) [] (coming_end h now place e (J e.serial)) (λ t. tt) (λ t. end_may place e (J e.serial) active))
         (repeat_may place e active))
         (λ idle. each_choice (outer_stands h e.serial) [] (coming_begin h now place e (J e.serial)) (λ t. tt) (λ t. begin_may place e known idle (J e.serial) refl))

@@ -74,7 +74,7 @@ module _ (h : History) (now : ℤ) (J : ℕ → Option Interval) where
     repeat_at Indefinite q = tt
     repeat_at Unresolved q = tt
 
-    repeat_of : AllByRecursion Of (coming_repeat h J now place e)
+    repeat_of : AllByRecursion Of (coming_repeat h (simple_of h J e) now place e)
     repeat_of =
         each_choice ((is_some e.attrs.repeat_count || is_some e.attrs.repeat_dur) && not (stands h e.serial))
         (coming_repeat_at h now place e (simple_of h J e) (later_time (simple_of h J e) (iteration_start h e.serial))) []
@@ -83,9 +83,9 @@ module _ (h : History) (now : ℤ) (J : ℕ → Option Interval) where
     element_of : AllByRecursion Of (coming_of h J now place e)
     element_of =
         each_choice (is_active h.diary e.serial)
-        (cond (outer_stands h e.serial) [] (coming_end h now place e (J e.serial)) ++ coming_repeat h J now place e)
+        (cond (outer_stands h e.serial) [] (coming_end h now place e (J e.serial)) ++ coming_repeat h (simple_of h J e) now place e)
         (cond (outer_stands h e.serial) [] (coming_begin h now place e (J e.serial)))
-        (λ active. each_append Of (cond (outer_stands h e.serial) [] (coming_end h now place e (J e.serial))) (coming_repeat h J now place e)
+        (λ active. each_append Of (cond (outer_stands h e.serial) [] (coming_end h now place e (J e.serial))) (coming_repeat h (simple_of h J e) now place e)
         (each_choice (outer_stands h e.serial) [] (coming_end h now place e (J e.serial)) (λ t. tt) (λ t. end_of active (J e.serial) refl))
         repeat_of)
         (λ idle. each_choice (outer_stands h e.serial) [] (coming_begin h now place e (J e.serial)) (λ t. tt) (λ t. begin_of idle (J e.serial) refl))

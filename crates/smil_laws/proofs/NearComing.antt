@@ -65,7 +65,7 @@ module _ (h : History) (now : ℤ) (a : AllNear h.diary) where
       repeat_at_near simple Indefinite n = tt
       repeat_at_near simple Unresolved n = tt
 
-      repeat_near : AllByRecursion Near (coming_repeat h J now place e)
+      repeat_near : AllByRecursion Near (coming_repeat h (simple_of h J e) now place e)
       repeat_near =
           each_choice ((is_some e.attrs.repeat_count || is_some e.attrs.repeat_dur) && not (stands h e.serial))
           (coming_repeat_at h now place e (simple_of h J e) (later_time (simple_of h J e) (iteration_start h e.serial))) []
@@ -74,9 +74,9 @@ module _ (h : History) (now : ℤ) (a : AllNear h.diary) where
       element_near : AllByRecursion Near (coming_of h J now place e)
       element_near =
           each_choice (is_active h.diary e.serial)
-          (cond (outer_stands h e.serial) [] (coming_end h now place e (J e.serial)) ++ coming_repeat h J now place e)
+          (cond (outer_stands h e.serial) [] (coming_end h now place e (J e.serial)) ++ coming_repeat h (simple_of h J e) now place e)
           (cond (outer_stands h e.serial) [] (coming_begin h now place e (J e.serial)))
-          (each_append Near (cond (outer_stands h e.serial) [] (coming_end h now place e (J e.serial))) (coming_repeat h J now place e)
+          (each_append Near (cond (outer_stands h e.serial) [] (coming_end h now place e (J e.serial))) (coming_repeat h (simple_of h J e) now place e)
           (each_choice (outer_stands h e.serial) [] (coming_end h now place e (J e.serial)) tt (end_near (J e.serial) (given e.serial)))
           repeat_near)
           (each_choice (outer_stands h e.serial) [] (coming_begin h now place e (J e.serial)) tt (begin_near (J e.serial) (given e.serial)))

@@ -22,7 +22,8 @@ use Rattle.smil_model.specs.declared.interval.Play.{Play}
 use Rattle.smil_model.specs.declared.interval.Facts.{Facts}
 use Rattle.smil_model.specs.declared.interval.EndList.{EndList}
 use Rattle.smil_model.specs.declared.interval.EndList.TheVariants.{Absent, Hearing, Plain}
-use Rattle.smil_model.specs.Times.{within_horizon, later_time, time_le, least_time, greatest_time, least_of, numbers, insert_in_order, rising, insert_time, rising_times, IsNear}
+use Rattle.smil_model.specs.Rising.{put_in}
+use Rattle.smil_model.specs.Times.{within_horizon, later_time, time_le, least_time, greatest_time, least_of, numbers, rising, rising_times, IsNear}
 use Rattle.smil_model.specs.interval.Durations.{active_duration}
 use Rattle.smil_model.specs.interval.Intervals.{bounds_in, counts_from, has_any, is_hearing, limit_of, end_limit_by, first_after, next_begin, play_end, duration_end, interval_end, after_end, is_from, is_accepted, goes_on, is_over, judged, unless_over, first_from, next_from, counts_after, may_restart, coming_interval, interval_by}
 use Rattle.smil_model.specs.interval.Instances.{edge_time, happened_times, expected_times, interval_edge, sync_times, is_event, is_repeat, is_press, hears, heard_times, event_times, repeat_times, offset_times, named_times, item_times, begin_times, end_times}
@@ -100,11 +101,11 @@ numbers_near (At x ∷ ts) q = (q.0, numbers_near ts q.1)
 numbers_near (Indefinite ∷ ts) q = numbers_near ts q.1
 numbers_near (Unresolved ∷ ts) q = numbers_near ts q.1
 
-put_near : (x : ℤ) (ys : List ℤ) → IsNear x → AreNear ys → AreNear (insert_in_order x ys)
+put_near : (x : ℤ) (ys : List ℤ) → IsNear x → AreNear ys → AreNear (put_in int_le x ys)
 put_near x [] p q = (p, tt)
 put_near x (y ∷ ys) p q = step (int_le x y) (put_near x ys p q.1)
   where
-    step : (b : Bool) → AreNear (insert_in_order x ys) → AreNear (cond b (x ∷ y ∷ ys) (y ∷ insert_in_order x ys))
+    step : (b : Bool) → AreNear (put_in int_le x ys) → AreNear (cond b (x ∷ y ∷ ys) (y ∷ put_in int_le x ys))
     step true r = (p, q)
     step false r = (q.0, r)
 
@@ -112,11 +113,11 @@ pub rising_near : (xs : List ℤ) → AreNear xs → AreNear (rising xs)
 rising_near [] q = tt
 rising_near (x ∷ xs) q = put_near x (rising xs) q.0 (rising_near xs q.1)
 
-put_time_near : (t : Time) (us : List Time) → IsTimeNear t → AreTimesNear us → AreTimesNear (insert_time t us)
+put_time_near : (t : Time) (us : List Time) → IsTimeNear t → AreTimesNear us → AreTimesNear (put_in time_le t us)
 put_time_near t [] p q = (p, tt)
 put_time_near t (u ∷ us) p q = step (time_le t u) (put_time_near t us p q.1)
   where
-    step : (b : Bool) → AreTimesNear (insert_time t us) → AreTimesNear (cond b (t ∷ u ∷ us) (u ∷ insert_time t us))
+    step : (b : Bool) → AreTimesNear (put_in time_le t us) → AreTimesNear (cond b (t ∷ u ∷ us) (u ∷ put_in time_le t us))
     step true r = (p, q)
     step false r = (q.0, r)
 

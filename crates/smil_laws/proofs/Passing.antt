@@ -221,7 +221,7 @@ module _ (h : History) (m : ℕ) (settled : until (pos m) h.diary ≡ h.diary) (
   repeat-at-next place e d time.Indefinite p = refl
   repeat-at-next place e d time.Unresolved p = refl
 
-  repeat-next : (J : ℕ → Option Interval) (place : ℕ) (e : Node) → coming_repeat h J (pos (suc m)) place e ≡ coming_repeat h J (pos m) place e
+  repeat-next : (J : ℕ → Option Interval) (place : ℕ) (e : Node) → coming_repeat h (simple_of h J e) (pos (suc m)) place e ≡ coming_repeat h (simple_of h J e) (pos m) place e
   repeat-next J place e = by_held (is_some e.attrs.repeat_count || is_some e.attrs.repeat_dur) (stands h e.serial) refl
     where
       by_held : (r t : Bool) → stands h e.serial ≡ t → cond (r && not t) (coming_repeat_at h (pos (suc m)) place e (simple_of h J e) (later_time (simple_of h J e) (iteration_start h e.serial))) [] ≡ cond (r && not t) (coming_repeat_at h (pos m) place e (simple_of h J e) (later_time (simple_of h J e) (iteration_start h e.serial))) []
@@ -232,10 +232,10 @@ module _ (h : History) (m : ℕ) (settled : until (pos m) h.diary ≡ h.diary) (
   pub keys-of-next : (J : ℕ → Option Interval) (place : ℕ) (e : Node) → coming_of h J (pos (suc m)) place e ≡ coming_of h J (pos m) place e
   keys-of-next J place e = by_held (is_active h.diary e.serial) (outer_stands h e.serial) refl
     where
-      by_held : (a t : Bool) → outer_stands h e.serial ≡ t → cond a (cond t [] (coming_end h (pos (suc m)) place e (J e.serial)) ++ coming_repeat h J (pos (suc m)) place e) (cond t [] (coming_begin h (pos (suc m)) place e (J e.serial))) ≡ cond a (cond t [] (coming_end h (pos m) place e (J e.serial)) ++ coming_repeat h J (pos m) place e) (cond t [] (coming_begin h (pos m) place e (J e.serial)))
+      by_held : (a t : Bool) → outer_stands h e.serial ≡ t → cond a (cond t [] (coming_end h (pos (suc m)) place e (J e.serial)) ++ coming_repeat h (simple_of h J e) (pos (suc m)) place e) (cond t [] (coming_begin h (pos (suc m)) place e (J e.serial))) ≡ cond a (cond t [] (coming_end h (pos m) place e (J e.serial)) ++ coming_repeat h (simple_of h J e) (pos m) place e) (cond t [] (coming_begin h (pos m) place e (J e.serial)))
       by_held true true q = repeat-next J place e
       by_held true false q =
-          ap (λ ks. ks ++ coming_repeat h J (pos (suc m)) place e) (end-key-next place e (J e.serial) q)
+          ap (λ ks. ks ++ coming_repeat h (simple_of h J e) (pos (suc m)) place e) (end-key-next place e (J e.serial) q)
           ∙ ap (λ ks. coming_end h (pos m) place e (J e.serial) ++ ks) (repeat-next J place e)
       by_held false true q = refl
       by_held false false q = begin-key-next place e (J e.serial) q

@@ -7,12 +7,13 @@ use Rattle.smil_model.specs.declared.diary.Entry.{Entry}
 use Rattle.smil_model.specs.declared.diary.LogEntry.{LogEntry}
 use Rattle.smil_model.specs.declared.diary.Step.{Step}
 use Rattle.smil_model.specs.declared.diary.Step.TheVariants.{Began, Repeated, Ended, Cut, Paused, Resumed, Deferred, Passed, Logged}
+use Rattle.smil_model.specs.declared.diary.StepKind.TheVariants as kind
 use Rattle.smil_model.specs.declared.document.Node.{Node}
 use Rattle.smil_model.specs.document.Document.{elements, node_at}
-use Rattle.smil_model.specs.diary.Diary.{History, is_active, is_alive, is_paused, with_past}
+use Rattle.smil_model.specs.diary.Diary.{History, is_active, is_alive, is_paused, with_past, is_step}
 use Rattle.smil_model.specs.diary.Lawful.{has_element, may_begin, is_lawful_step, AllLawful, IsLawful}
 use Rattle.smil_laws.specs.Agreement.{IsAside, DifferBelow, is_on, SparesAll, SameStep}
-use Rattle.smil_model.specs.reach.Bounds.{is_begin_of, has_begun}
+use Rattle.smil_model.specs.reach.Bounds.{has_begun}
 use Rattle.smil_model.specs.happening.Resolution.{Progress}
 use Rattle.smil_laws.proofs.Rounds.{find-serial}
 use Rattle.smil_laws.proofs.Aside.{names_itself, each_append, inactive, spared, never_alive}
@@ -65,7 +66,7 @@ module _ (aside : ℕ → Bool) (p : ℕ) (nodes : List Node) (b : IsAside aside
   spares_from : (ds before xs : List Entry) → SparesAll aside before → has_begun (before ++ xs) p ≡ false → AllLawful (with ds) (with_past before xs) → SparesAll aside xs
   spares_from ds before [] free never all = tt
   spares_from ds before (x ∷ xs) free never all =
-      let front : has_begun before p ≡ false = (or_parts _ _ (sym (list_any-append (λ (y : Entry). is_begin_of p y.step) before (x ∷ xs)) ∙ never)).0 in
+      let front : has_begun before p ≡ false = (or_parts _ _ (sym (list_any-append (λ (y : Entry). is_step kind.Began p y.step) before (x ∷ xs)) ∙ never)).0 in
       let here : is_on aside x.step ≡ false = step_spares before free front x.step all.0 in (
         here,
         spares_from ds (before ++ x ∷ []) xs (each_append (λ (y : Entry). is_on aside y.step ≡ false) before (x ∷ []) free (here, tt))

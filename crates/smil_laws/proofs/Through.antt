@@ -9,26 +9,27 @@ use Rattle.std.proofs.lemmas.List.{append-nil}
 use Rattle.smil_model.specs.declared.diary.Entry.{Entry}
 use Rattle.smil_model.specs.declared.diary.LogEntry.{LogEntry}
 use Rattle.smil_model.specs.declared.diary.Step.{Step}
+use Rattle.smil_model.specs.declared.diary.StepKind.TheVariants as kind
 use Rattle.smil_model.specs.declared.limits.TheConstants.{DIARY_ENTRIES}
 use Rattle.smil_model.specs.declared.diary.Step.TheVariants.{Began, Repeated, Ended, Cut, Paused, Resumed, Deferred, Passed}
 use Rattle.smil_model.specs.declared.document.Act.{Act}
 use Rattle.smil_model.specs.declared.document.Act.TheVariants.{Stop, Pause, Defer, Never}
 use Rattle.smil_model.specs.declared.document.Node.{Node}
 use Rattle.smil_model.specs.document.Document.{time_parent, is_excl_kind, descendants, has_serial}
-use Rattle.smil_model.specs.diary.Diary.{History, is_paused, is_active}
+use Rattle.smil_model.specs.diary.Diary.{History, is_paused, is_active, is_step}
 use Rattle.smil_model.specs.diary.Clocks.{outer}
 use Rattle.smil_model.specs.happening.Queue.{playing_child, queue_of, decision}
 use Rattle.smil_model.specs.happening.Keys.{Change, begins, ends, repeats}
 use Rattle.smil_model.specs.happening.Groups.{cuts, follower, followers, interruption, begin_beside, begin_under, steps_of, at_moment}
 use Rattle.smil_model.specs.happening.Resolution.{Course, Progress, outset, history_at, next_step, after_steps, Reaches, resolved, diary_of}
 use Rattle.smil_laws.specs.Agreement.{DifferBelow, SparesAll, course_on}
-use Rattle.smil_model.specs.reach.Bounds.{is_begin_of, has_begun, through_begin}
+use Rattle.smil_model.specs.reach.Bounds.{has_begun, through_begin}
 use Rattle.smil_laws.proofs.Agreed.{next_extends, begun_before, next_same, next_spares, agrees_until_begun}
 
 -- ---- a group begins an element with its last entry, or none
 
 abbrev begins_any : ℕ → List Step → Bool
-begins_any p steps = list_any (λ (step : Step). is_begin_of p step) steps
+begins_any p steps = list_any (λ (step : Step). is_step kind.Began p step) steps
 
 -- steps of which none but the last begins the element
 record EndsSo (p : ℕ) (steps : List Step) : Type 0 where
@@ -42,7 +43,7 @@ behind p xs steps q e = record {
   front = xs ++ e.front;
   final = e.final;
   whole = ap (λ ys. xs ++ ys) e.whole ∙ sym (append_assoc xs e.front (option_to_list e.final));
-  no_attrs = list_any-append (λ (step : Step). is_begin_of p step) xs e.front ∙ ap (λ t. t || begins_any p e.front) q ∙ e.no_attrs;
+  no_attrs = list_any-append (λ (step : Step). is_step kind.Began p step) xs e.front ∙ ap (λ t. t || begins_any p e.front) q ∙ e.no_attrs;
 }
 
 alone : (p : ℕ) (step : Step) → EndsSo p (step ∷ [])
@@ -103,7 +104,7 @@ Closes p added = has_begun added p ≡ true → (zs : List Entry) → through_be
 through_plain : (p : ℕ) (xs zs : List Entry) → has_begun xs p ≡ false → through_begin p (xs ++ zs) ≡ xs ++ through_begin p zs
 through_plain p [] zs q = refl
 through_plain p (x ∷ xs) zs q =
-    let parts = or_parts (is_begin_of p x.step) (has_begun xs p) q in
+    let parts = or_parts (is_step kind.Began p x.step) (has_begun xs p) q in
     ap (λ t. cond t (x ∷ []) (x ∷ through_begin p (xs ++ zs))) parts.0 ∙ ap (λ ys. x ∷ ys) (through_plain p xs zs parts.1)
 
 pub through_all : (p : ℕ) (xs : List Entry) → has_begun xs p ≡ false → through_begin p xs ≡ xs
@@ -111,7 +112,7 @@ through_all p xs q = ap (through_begin p) (sym (append-nil xs)) ∙ through_plai
 
 begun_at : (p : ℕ) (m : ℤ) (steps : List Step) → has_begun (at_moment m steps) p ≡ begins_any p steps
 begun_at p m [] = refl
-begun_at p m (step ∷ steps) = ap (λ t. is_begin_of p step || t) (begun_at p m steps)
+begun_at p m (step ∷ steps) = ap (λ t. is_step kind.Began p step || t) (begun_at p m steps)
 
 pub at_append : (m : ℤ) (xs ys : List Step) → at_moment m (xs ++ ys) ≡ at_moment m xs ++ at_moment m ys
 at_append m [] ys = refl
@@ -121,12 +122,12 @@ closes_final : (p : ℕ) (m : ℤ) (xs : List Entry) (o : Option Step) → has_b
 closes_final p m xs None q t zs =
     let never : false ≡ true = sym (ap (λ ys. has_begun ys p) (append-nil xs) ∙ q) ∙ t in cc
 closes_final p m xs (Some step) q t zs =
-    let here : is_begin_of p step ≡ true = last_one (is_begin_of p step) refl (sym (list_any-append (λ (x : Entry). is_begin_of p x.step) xs (record { moment = m; step = step } ∷ []) ∙ ap (λ b. b || (is_begin_of p step || false)) q) ∙ t) in
+    let here : is_step kind.Began p step ≡ true = last_one (is_step kind.Began p step) refl (sym (list_any-append (λ (x : Entry). is_step kind.Began p x.step) xs (record { moment = m; step = step } ∷ []) ∙ ap (λ b. b || (is_step kind.Began p step || false)) q) ∙ t) in
     ap (through_begin p) (append_assoc xs (record { moment = m; step = step } ∷ []) zs)
     ∙ through_plain p xs (record { moment = m; step = step } ∷ zs) q
     ∙ ap (λ b. xs ++ cond b (record { moment = m; step = step } ∷ []) (record { moment = m; step = step } ∷ through_begin p zs)) here
   where
-    last_one : (b : Bool) → is_begin_of p step ≡ b → (b || false) ≡ true → is_begin_of p step ≡ true
+    last_one : (b : Bool) → is_step kind.Began p step ≡ b → (b || false) ≡ true → is_step kind.Began p step ≡ true
     last_one true e r = e
     last_one false e r = cc
 
@@ -181,7 +182,7 @@ module _ (aside : ℕ → Bool) (p : ℕ) (n1 n2 : List Node) (differ : DifferBe
           by_begun true f =
               let one = next_extends (Closes p) c1 q (λ t zs. cc) (λ t zs. cc) (λ next d. closes p (pos q.moment) (steps_of (history_at c1 q) (pos q.moment) next.key.serial next.change) (steps_so p (history_at c1 q) (pos q.moment) next.key.serial next.change)) r e in
               let rest = more_added c1 k r in
-              let begun : has_begun one.0 p ≡ true = sym (list_any-append (λ (x : Entry). is_begin_of p x.step) q.diary one.0 ∙ ap (λ b. b || has_begun one.0 p) never) ∙ sym (ap (λ ds. has_begun ds p) one.1) ∙ f in (
+              let begun : has_begun one.0 p ≡ true = sym (list_any-append (λ (x : Entry). is_step kind.Began p x.step) q.diary one.0 ∙ ap (λ b. b || has_begun one.0 p) never) ∙ sym (ap (λ ds. has_begun ds p) one.1) ∙ f in (
                 1,
                 ap (λ o. (option_map_or (λ r. r) o q).diary) next2
                     ∙ one.1

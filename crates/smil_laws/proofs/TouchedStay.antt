@@ -56,7 +56,7 @@ module _ (h : History) (first : ParentsBefore (reverse h.nodes)) (y : Entry) (x 
   abbrev asks : Bool
   asks = is_some e.attrs.repeat_count || is_some e.attrs.repeat_dur
 
-  repeat-then : (place : ℕ) → coming_repeat then J now place e ≡ coming_repeat h J now place e
+  repeat-then : (place : ℕ) → coming_repeat then (simple_of then J e) now place e ≡ coming_repeat h (simple_of h J e) now place e
   repeat-then place =
       ap (λ t. cond (asks && not t) (coming_repeat_at then now place e (simple_of then J e) (later_time (simple_of then J e) (iteration_start then e.serial))) []) (own_held-then h first y x only e.serial far.apart)
       ∙ ap (λ s. cond (asks && not (stands h e.serial)) (coming_repeat_at then now place e s (later_time s (iteration_start then e.serial))) []) (simple-then h first y x only J now e far)
@@ -65,11 +65,11 @@ module _ (h : History) (first : ParentsBefore (reverse h.nodes)) (y : Entry) (x 
 
   coming-then : (place : ℕ) → coming_of then J now place e ≡ coming_of h J now place e
   coming-then place =
-      ap (λ t. cond t (cond (outer_stands then e.serial) [] (coming_end then now place e (J e.serial)) ++ coming_repeat then J now place e) (cond (outer_stands then e.serial) [] (coming_begin then now place e (J e.serial)))) (active-then h first y x only h.diary e.serial far.apart.self)
-      ∙ ap (λ t. cond (is_active h.diary e.serial) (cond t [] (coming_end then now place e (J e.serial)) ++ coming_repeat then J now place e) (cond t [] (coming_begin then now place e (J e.serial)))) (parent_held-then h first y x only e.serial far.apart)
-      ∙ ap (λ cs. cond (is_active h.diary e.serial) (cond (outer_stands h e.serial) [] cs ++ coming_repeat then J now place e) (cond (outer_stands h e.serial) [] (coming_begin then now place e (J e.serial)))) (end-then place (J e.serial))
+      ap (λ t. cond t (cond (outer_stands then e.serial) [] (coming_end then now place e (J e.serial)) ++ coming_repeat then (simple_of then J e) now place e) (cond (outer_stands then e.serial) [] (coming_begin then now place e (J e.serial)))) (active-then h first y x only h.diary e.serial far.apart.self)
+      ∙ ap (λ t. cond (is_active h.diary e.serial) (cond t [] (coming_end then now place e (J e.serial)) ++ coming_repeat then (simple_of then J e) now place e) (cond t [] (coming_begin then now place e (J e.serial)))) (parent_held-then h first y x only e.serial far.apart)
+      ∙ ap (λ cs. cond (is_active h.diary e.serial) (cond (outer_stands h e.serial) [] cs ++ coming_repeat then (simple_of then J e) now place e) (cond (outer_stands h e.serial) [] (coming_begin then now place e (J e.serial)))) (end-then place (J e.serial))
       ∙ ap (λ cs. cond (is_active h.diary e.serial) (cond (outer_stands h e.serial) [] (coming_end h now place e (J e.serial)) ++ cs) (cond (outer_stands h e.serial) [] (coming_begin then now place e (J e.serial)))) (repeat-then place)
-      ∙ ap (λ cs. cond (is_active h.diary e.serial) (cond (outer_stands h e.serial) [] (coming_end h now place e (J e.serial)) ++ coming_repeat h J now place e) (cond (outer_stands h e.serial) [] cs)) (begin-then place (J e.serial))
+      ∙ ap (λ cs. cond (is_active h.diary e.serial) (cond (outer_stands h e.serial) [] (coming_end h now place e (J e.serial)) ++ coming_repeat h (simple_of h J e) now place e) (cond (outer_stands h e.serial) [] cs)) (begin-then place (J e.serial))
 
   pub same-then : GivesSame h then J now e
   same-then = record { interval = interval-then h first y x only J now e far; coming = coming-then }

@@ -15,10 +15,10 @@ use Rattle.smil_model.specs.declared.diary.Happening.TheVariants as happening
 use Rattle.smil_model.specs.declared.diary.Step.{Step}
 use Rattle.smil_model.specs.declared.diary.Step.TheVariants.{Began, Repeated, Ended, Cut, Paused, Resumed, Deferred, Passed, Logged}
 use Rattle.smil_model.specs.diary.Diary.{History, up_to}
-use Rattle.smil_model.specs.interval.Instances.{is_press, is_pressed, is_log_key}
+use Rattle.smil_model.specs.interval.Instances.{is_press}
 use Rattle.smil_model.specs.interval.Current.{current_interval}
 use Rattle.smil_model.specs.document.Closure.{has, closure}
-use Rattle.smil_model.specs.reach.Reach.{subject, subject_of, logged_subject, down, down_from, is_key_item, waiters, down_key, pressed, logged_key, key_of, reads, reads_node, reach_by, reach}
+use Rattle.smil_model.specs.reach.Reach.{is_option, subject, subject_of, logged_subject, down, down_from, is_key_item, waiters, down_key, pressed, logged_key, key_of, reads, reads_node, reach_by, reach}
 use Rattle.smil_laws.proofs.Lineages.{ParentsBefore, swap_eqb}
 use Rattle.smil_laws.proofs.Foreign.{is_about, logged_about, happens_to, Apart}
 use Rattle.smil_laws.proofs.Reached.{found_any, any_filter, has_serials, is_out, out_before, outside_reach, child_is_all, before_is_all, sync_is_all, event_is_all, own_is_all, from_serials}
@@ -69,17 +69,7 @@ about_no_one log (Logged place) s q = by_entry (slice_get log place) q
 
 -- a step that presses no key is no press, and one that presses a key has no subject and is a press of no other
 pub no_press : (log : List LogEntry) (step : Step) (k : ℕ) → key_of log step ≡ None → is_press log k step ≡ false
-no_press log (Logged place) k q = by_entry (slice_get log place) q
-  where
-    by_entry : (o : Option LogEntry) → logged_key o ≡ None → is_log_key k o ≡ false
-    by_entry None r = refl
-    by_entry (Some entry) r = by_what entry.what r
-      where
-        by_what : (w : Happening) → pressed w ≡ None → is_pressed k w ≡ false
-        by_what (happening.Event who name) g = refl
-        by_what (happening.Media who length) g = refl
-        by_what (happening.Key key) g = cc
-no_press log _ k q = refl
+no_press log step k q = ap (is_option k) q
 
 pub lone_press : (log : List LogEntry) (step : Step) (key : ℕ) → key_of log step ≡ Some key → subject_of log step ≡ None
 lone_press log (Logged place) key q = by_entry (slice_get log place) q
@@ -95,17 +85,7 @@ lone_press log (Logged place) key q = by_entry (slice_get log place) q
 lone_press log _ key q = cc
 
 pub one_press : (log : List LogEntry) (step : Step) (key k : ℕ) → key_of log step ≡ Some key → is_press log k step ≡ true → k ≡ key
-one_press log (Logged place) key k q t = by_entry (slice_get log place) q t
-  where
-    by_entry : (o : Option LogEntry) → logged_key o ≡ Some key → is_log_key k o ≡ true → k ≡ key
-    by_entry None r u = cc
-    by_entry (Some entry) r u = by_what entry.what r u
-      where
-        by_what : (w : Happening) → pressed w ≡ Some key → is_pressed k w ≡ true → k ≡ key
-        by_what (happening.Event who name) g v = cc
-        by_what (happening.Media who length) g v = cc
-        by_what (happening.Key own) g v = let one : own ≡ key = cc in sym (eqb-true own k v) ∙ one
-one_press log _ key k q t = cc
+one_press log step key k q t = eqb-true k key (sym (ap (is_option k) q) ∙ t)
 
 module _ (h : History) (first : ParentsBefore (reverse h.nodes)) (y : Entry) (x : ℕ) (on : subject_of h.log y.step ≡ Some x) (plain : key_of h.log y.step ≡ None) where
   leaves_unreached : (now : ℤ) (s : ℕ) → has (down h.nodes x) s ≡ false → current_interval (up_to h (h.diary ++ y ∷ [])) now s ≡ current_interval h now s

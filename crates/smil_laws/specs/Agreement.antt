@@ -1,13 +1,13 @@
 -- Two documents that are the same but for the descendants of one element,
 -- and the diaries that agree until it begins.
-use Rattle.std.specs.Prelude.{◌≡◌, ℕ, ℤ, suc, List, filter, reverse, Bool, true, false, not, ◌||◌, ◌==◌, option_map, is_some, Some, None}
+use Rattle.std.specs.Prelude.{◌≡◌, ℕ, ℤ, suc, List, filter, reverse, Bool, true, false, not, ◌||◌, ◌==◌, is_some, Some, None}
 use Rattle.std.specs.List.{AllByRecursion, list_any}
 use Rattle.smil_model.specs.declared.diary.Entry.{Entry}
 use Rattle.smil_model.specs.declared.diary.LogEntry.{LogEntry}
 use Rattle.smil_model.specs.declared.diary.Step.{Step}
 use Rattle.smil_model.specs.declared.diary.Step.TheVariants.{Began, Repeated, Ended, Cut, Paused, Resumed, Deferred, Passed, Logged}
 use Rattle.smil_model.specs.declared.document.Node.{Node}
-use Rattle.smil_model.specs.document.Document.{is_element, elements, node_at, time_parent, element_named}
+use Rattle.smil_model.specs.document.Document.{is_element, elements, node_at, time_parent, element_named, serial_of}
 use Rattle.smil_model.specs.document.Dependencies.{leads_to, is_sync_with, all_items}
 use Rattle.smil_laws.specs.Locality.{ParentsBefore}
 use Rattle.smil_model.specs.interval.Current.{current_interval}
@@ -37,8 +37,7 @@ pub record DifferBelow (aside : ℕ → Bool) (p : ℕ) (old new : List Node) : 
   pub same : without_aside aside old ≡ without_aside aside new
   pub in_old : IsAside aside p old
   pub in_new : IsAside aside p new
-  pub ids : (id : List ℕ) → option_map (λ (n : Node). n.serial) (element_named old id)
-      ≡ option_map (λ (n : Node). n.serial) (element_named new id)
+  pub ids : (id : List ℕ) → serial_of (element_named old id) ≡ serial_of (element_named new id)
   pub loops : (e : Node) (x : ℕ) → node_at (elements old) e.serial ≡ Some e → aside e.serial ≡ false
       → list_any (is_sync_with old x) (all_items old e) ≡ true
       → leads_to old e.serial x ≡ leads_to new e.serial x

@@ -1,4 +1,4 @@
--- What a course reaches does not rest on what is logged later, nor on the moments that come later.
+-- What a course reaches does not depend on what is logged later, nor on the moments that come later.
 use Rattle.std.specs.Prelude.{◌≡◌, ℕ, ◌<◌, pos, List, take, filter, length, Bool, true, false}
 use Rattle.std.specs.List.{AllByRecursion}
 use Rattle.smil_model.specs.declared.diary.Entry.{Entry}

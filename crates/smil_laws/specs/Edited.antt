@@ -1,11 +1,11 @@
 -- An edit that leaves the references as they were changes the document only below the time parent
 -- of what it edits; so the diary stays until that time parent begins.
-use Rattle.std.specs.Prelude.{◌≡◌, ℕ, List, reverse, true, false, ◌==◌, option_map, Some}
+use Rattle.std.specs.Prelude.{◌≡◌, ℕ, List, reverse, true, false, ◌==◌, Some}
 use Rattle.std.specs.List.{list_any}
 use Rattle.smil_model.specs.declared.document.Attr.{Attr}
 use Rattle.smil_model.specs.declared.document.AttrName.{AttrName}
 use Rattle.smil_model.specs.declared.document.Node.{Node}
-use Rattle.smil_model.specs.document.Document.{Document, is_below, elements, node_at, time_parent, element_named}
+use Rattle.smil_model.specs.document.Document.{Document, is_below, elements, node_at, time_parent, element_named, serial_of}
 use Rattle.smil_model.specs.document.Valid.{IsNumberedTree, IsDistinct}
 use Rattle.smil_model.specs.document.Dependencies.{leads_to, is_sync_with, all_items}
 use Rattle.smil_laws.specs.Locality.{ParentsBefore}
@@ -20,8 +20,7 @@ use Rattle.smil_model.specs.reach.Bounds.{has_begun, through_begin}
 -- an id names the same serial before and after, and each reference of every other element that both
 -- documents have is looped in both or in none
 pub record KeepsReferences (edited : ℕ) (old new : List Node) : Type 0 where
-  pub ids : (id : List ℕ) → option_map (λ (n : Node). n.serial) (element_named old id)
-      ≡ option_map (λ (n : Node). n.serial) (element_named new id)
+  pub ids : (id : List ℕ) → serial_of (element_named old id) ≡ serial_of (element_named new id)
   pub loops : (e : Node) (x : ℕ) → node_at (elements old) e.serial ≡ Some e
       → node_at (elements new) e.serial ≡ Some e → e.serial == edited ≡ false
       → list_any (is_sync_with old x) (all_items old e) ≡ true

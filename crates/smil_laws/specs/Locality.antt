@@ -1,4 +1,4 @@
--- Laws over the definitions, each the contract of a function of its own.
+-- Locality: an entry changes no current interval outside its reach.
 use Rattle.std.specs.Prelude.{◌≡◌, ℕ, ℤ, List, [], ◌∷◌, ◌++◌, false, reverse, ◌==◌}
 use Rattle.smil_model.specs.declared.diary.Entry.{Entry}
 use Rattle.smil_model.specs.declared.document.Node.{Node}

@@ -53,7 +53,7 @@ LeavesUntouched =
     → is_touched_by h.nodes h.log entries e.serial ≡ false
     → GivesSame h (up_to h (h.diary ++ entries)) intervals now e
 
--- the elements that are in the reach of one of the entries, each once
+-- whether an element is in the reach of one of the entries
 abbrev pub in_reaches : List Node → List LogEntry → List Entry → ℕ → Bool
 in_reaches nodes log entries s = list_any (λ y. has (reach nodes log y) s) entries
 

@@ -31,7 +31,7 @@ pub fn whole(digits: &[u8]) -> Option<u64>
     Some(number)
 }
 
-/// The number that 1 to 9 digits write.
+/// The number that 1 to 9 digits write; none for all other texts.
 #[tactic(auto, using(crate::proofs::Digits::short_some, crate::proofs::Digits::short_none))]
 pub fn short(digits: &[u8]) -> Option<u32>
     requires { length digits.now ≤ DIGITS }

@@ -113,5 +113,5 @@ edit_made p (order.Remove who) d edits e =
 edit_made p _ d edits e = absurd cc
 
 -- the next serial after an insertion
-pub new_next : (before after doc : Document) (at : Site) → at ≡ site.New → IsMade before at after → doc ≡ after → doc.next ≡ suc before.next
-new_next before after doc at is made same = ap (λ (x : Document). x.next) same ∙ (made.next_is ∙ ap (site_next before) is)
+pub new_next : (before after : Document) (at : Site) → at ≡ site.New → IsMade before at after → after.next ≡ suc before.next
+new_next before after at is made = made.next_is ∙ ap (site_next before) is

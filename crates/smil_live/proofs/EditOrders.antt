@@ -8,11 +8,10 @@ use Rattle.smil_model.specs.declared.order.Refusal.{Refusal}
 use Rattle.smil_model.specs.declared.order.Who.{Who}
 use Rattle.smil_model.specs.document.Document.{Document}
 use Rattle.smil_model.specs.document.Limits.{limits}
-use Rattle.smil_model.specs.shown.Answers.{Accepts, Refuses, answer_text, change_text, gone_text}
+use Rattle.smil_model.specs.shown.Answers.{Accepts, IsRefusedBy, Refuses, answer_text, change_text, gone_text}
 use Rattle.smil_model.specs.shown.Orders.{Presentation, and_then, changes_between, found, node_of, on_node, outcome, resolved_with}
 use Rattle.smil_grammar.specs.Formats.{formats}
 use Rattle.smil_live.specs.Editing.{edit_of}
-use Rattle.smil_revision.specs.Editing.{IsRefusedBy}
 use Rattle.smil_live.specs.Telling.{is_edit}
 
 -- ---- the order's outcome is that of its edit, resolved

@@ -12,13 +12,13 @@ use Rattle.smil_model.specs.declared.view.View.{View}
 use Rattle.smil_model.specs.document.Document.{Document, elements, node_at}
 use Rattle.smil_model.specs.document.Valid.{IsValid}
 use Rattle.smil_model.specs.happening.Resolution.{diary_of}
-use Rattle.smil_model.specs.shown.Answers.{Accepts, Refuses, change_text, gone_text}
+use Rattle.smil_model.specs.shown.Answers.{Accepts, IsRefusedBy, Refuses, change_text, gone_text}
 use Rattle.smil_model.specs.shown.Lines.{gone_line, name_of}
 use Rattle.smil_model.specs.shown.Orders.{IsState, Presentation, at_moment, changed, changes_between, course_of, node_of, on_node, views_of}
 use Rattle.smil_grammar.specs.Formats.{formats}
 use Rattle.smil_cells.specs.CellsState.{CellsState}
 use Rattle.smil_live.specs.Editing.{IsEdited, edit_of}
-use Rattle.smil_revision.specs.Editing.{IsRefusedBy, at_node}
+use Rattle.smil_revision.specs.Editing.{at_node}
 use Rattle.smil_shown.specs.ShownViews.{IsPlaying, views_at}
 use Rattle.smil_live.specs.Moves.{IsReplayed, IsTooFull, edited_to, text_of}
 use Rattle.smil_shown.specs.ViewTable.{ViewLists}

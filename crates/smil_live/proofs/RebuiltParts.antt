@@ -8,8 +8,6 @@ use Rattle.std.proofs.lemmas.Bool.{and_parts, ltb-true, ltb-false}
 use Rattle.std.proofs.lemmas.Int.{ints}
 use Rattle.smil_model.specs.declared.diary.Entry.{Entry}
 use Rattle.smil_model.specs.declared.diary.LogEntry.{LogEntry}
-use Rattle.smil_model.specs.declared.diary.Step.{Step}
-use Rattle.smil_model.specs.declared.diary.Step.TheVariants.{Began, Repeated, Ended, Cut, Paused, Resumed, Deferred, Passed, Logged}
 use Rattle.smil_model.specs.declared.diary.StepKind.TheVariants as kind
 use Rattle.smil_model.specs.declared.document.Node.{Node}
 use Rattle.smil_model.specs.document.Document.{Document}
@@ -18,7 +16,7 @@ use Rattle.smil_model.specs.diary.Clocks.{until}
 use Rattle.smil_model.specs.diary.Diary.{is_step, last_moment}
 use Rattle.smil_model.specs.diary.Logs.{is_log, is_logged_by, moments_rise}
 use Rattle.smil_model.specs.happening.Resolution.{Course, Progress, outset, Reaches, diary_of}
-use Rattle.smil_model.specs.reach.Bounds.{is_begin_of, through_begin}
+use Rattle.smil_model.specs.reach.Bounds.{through_begin}
 use Rattle.smil_model.proofs.Orders.{is_le, le_both}
 use Rattle.smil_laws.specs.Agreement.{course_on}
 use Rattle.smil_laws.specs.Courses.{heard_by}
@@ -157,21 +155,10 @@ no_part document log bound numbered is_a_log = part_of document log 0 bound outs
 
 -- ---- through the first begin
 
-is_begin : (p : ℕ) (step : Step) → is_step kind.Began p step ≡ is_begin_of p step
-is_begin p (Began who begin) = refl
-is_begin p (Repeated who start) = refl
-is_begin p (Ended who end') = refl
-is_begin p (Cut who) = refl
-is_begin p (Paused who) = refl
-is_begin p (Resumed who) = refl
-is_begin p (Deferred who begin) = refl
-is_begin p (Passed who begin) = refl
-is_begin p (Logged place) = refl
-
 -- the entries through the first begin are the first ones
 pub through_first : (p : ℕ) (d : List Entry) → take (length (through_begin p d)) d ≡ through_begin p d
 through_first p [] = refl
-through_first p (x ∷ xs) = by_test (is_begin_of p x.step) (through_first p xs)
+through_first p (x ∷ xs) = by_test (is_step kind.Began p x.step) (through_first p xs)
   where
     by_test : (t : Bool) → take (length (through_begin p xs)) xs ≡ through_begin p xs → take (length (cond t (x ∷ []) (x ∷ through_begin p xs))) (x ∷ xs) ≡ cond t (x ∷ []) (x ∷ through_begin p xs)
     by_test true rest = ap (λ (l : List Entry). x ∷ l) refl
@@ -179,7 +166,7 @@ through_first p (x ∷ xs) = by_test (is_begin_of p x.step) (through_first p xs)
 
 pub through_within : (p : ℕ) (d : List Entry) → length (through_begin p d) ≤ length d
 through_within p [] = omega arith
-through_within p (x ∷ xs) = by_test (is_begin_of p x.step) (through_within p xs)
+through_within p (x ∷ xs) = by_test (is_step kind.Began p x.step) (through_within p xs)
   where
     by_test : (t : Bool) → length (through_begin p xs) ≤ length xs → length (cond t (x ∷ []) (x ∷ through_begin p xs)) ≤ suc (length xs)
     by_test true rest = omega arith
@@ -188,14 +175,12 @@ through_within p (x ∷ xs) = by_test (is_begin_of p x.step) (through_within p x
 -- how many they are
 through_length : (p : ℕ) (d : List Entry) → length (through_begin p d) ≡ min (1 + position_or_len (λ (x : Entry). is_step kind.Began p x.step) d) (length d)
 through_length p [] = refl
-through_length p (x ∷ xs) = by_test (is_begin_of p x.step) (is_step kind.Began p x.step) (is_begin p x.step) (through_length p xs)
+through_length p (x ∷ xs) = by_test (is_step kind.Began p x.step) (through_length p xs)
   where
-    by_test : (s t : Bool) → t ≡ s → length (through_begin p xs) ≡ min (1 + position_or_len (λ (y : Entry). is_step kind.Began p y.step) xs) (length xs)
-        → length (cond s (x ∷ []) (x ∷ through_begin p xs)) ≡ min (1 + cond (not t) (1 + position_or_len (λ (y : Entry). is_step kind.Began p y.step) xs) 0) (suc (length xs))
-    by_test true true e rest = omega arith
-    by_test false false e rest = omega (arith, rest)
-    by_test true false e rest = cc
-    by_test false true e rest = cc
+    by_test : (t : Bool) → length (through_begin p xs) ≡ min (1 + position_or_len (λ (y : Entry). is_step kind.Began p y.step) xs) (length xs)
+        → length (cond t (x ∷ []) (x ∷ through_begin p xs)) ≡ min (1 + cond (not t) (1 + position_or_len (λ (y : Entry). is_step kind.Began p y.step) xs) 0) (suc (length xs))
+    by_test true rest = omega arith
+    by_test false rest = omega (arith, rest)
 
 -- as many as its place says, and all where it has not begun
 pub through_place : (p : ℕ) (d : List Entry) (place : ℕ) → position (λ (x : Entry). is_step kind.Began p x.step) d ≡ Some place → length (through_begin p d) ≡ place + 1

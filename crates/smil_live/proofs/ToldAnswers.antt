@@ -12,7 +12,7 @@ use Rattle.smil_model.specs.declared.view.View.{View}
 use Rattle.smil_model.specs.diary.Diary.{History}
 use Rattle.smil_model.specs.document.Document.{Document, elements, node_at}
 use Rattle.smil_model.specs.document.Valid.{IsNumberedTree}
-use Rattle.smil_model.specs.shown.Answers.{change_text, diary_text, gone_text, history_text, name_in, stack_text, values_on, values_text}
+use Rattle.smil_model.specs.shown.Answers.{change_text, diary_text, gone_text, history_text, name_in, stack_text, told_line, values_on, values_text}
 use Rattle.smil_model.specs.shown.Histories.{intervals_of}
 use Rattle.smil_model.specs.shown.Lines.{entry_line, name_of, now_line, outline_end}
 use Rattle.smil_model.specs.shown.Orders.{Formats, Presentation, at_moment, resolved_history, views_of}
@@ -20,7 +20,6 @@ use Rattle.smil_model.specs.shown.Sandwich.{layers, stack_of}
 use Rattle.smil_model.specs.document.Words.{Begins}
 use Rattle.smil_past.proofs.References.{kept_known as kept_found}
 use Rattle.smil_cells.specs.CellsState.{IsSettled, CellsState, history_of}
-use Rattle.smil_shown.specs.Histories.{told_line}
 use Rattle.smil_shown.specs.ShownViews.{IsPlaying}
 use Rattle.smil_shown.specs.ViewTable.{ViewLists}
 use Rattle.smil_shown.specs.Sets.{AreOfElements, AreSetsAmong, AreSetsOf, LayerTable}

@@ -1,5 +1,5 @@
 -- What orders make of a presentation.
-use Rattle.std.specs.Prelude.{◌≡◌, ◌⊎◌, ℕ, ℤ, pos, nat_abs, ◌-◌, ◌≤◌, ◌≤ℤ◌, List, [], ◌∷◌, ◌++◌, take, drop, length, filter, flat_map, int_le, None, Some, Ok, Err, true}
+use Rattle.std.specs.Prelude.{◌≡◌, ◌⊎◌, ℕ, ℤ, pos, nat_abs, ◌-◌, ◌≤◌, ◌≤ℤ◌, List, [], ◌∷◌, ◌++◌, take, drop, length, filter, flat_map, int_le, None, Some, Ok, true}
 use Rattle.smil_model.specs.declared.diary.Happening.{Happening}
 use Rattle.smil_model.specs.declared.diary.LogEntry.{LogEntry}
 use Rattle.smil_model.specs.declared.limits.TheConstants.{LOG_ENTRIES}
@@ -12,7 +12,7 @@ use Rattle.smil_model.specs.document.Limits.{limits}
 use Rattle.smil_model.specs.diary.Logs.{may_happen, moments_rise}
 use Rattle.smil_model.specs.happening.Keys.{DueChange}
 use Rattle.smil_model.specs.happening.Resolution.{diary_of}
-use Rattle.smil_model.specs.shown.Answers.{change_text}
+use Rattle.smil_model.specs.shown.Answers.{IsRefusedBy, change_text}
 use Rattle.smil_model.specs.shown.Orders.{Presentation, course_of, changes_between, changes_through, with_logged as logged_within, as_of}
 use Rattle.smil_cells.specs.CellsState.{CellsState, IsSettled, first_at, with_logged}
 use Rattle.smil_shown.specs.ShownViews.{IsShown}
@@ -114,5 +114,4 @@ pub record IsHeardBy
 
 -- why it was not
 abbrev pub IsNotHeard : Presentation → Happening → Refusal → Type 0
-IsNotHeard before what given =
-    (given ≡ refusal.Memory) ⊎ (logged_within limits before what ≡ Err given)
+IsNotHeard before what given = IsRefusedBy (logged_within limits before what) given

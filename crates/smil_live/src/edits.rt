@@ -4,7 +4,7 @@ ghost use Rattle.std.specs.Prelude.{◌≡◌, ◌≤◌, ◌-◌, ◌++◌, dro
 ghost use Rattle.smil_model.specs.declared.document.Node.{Node as AnyNode};
 ghost use Rattle.smil_model.specs.declared.order.Order.TheVariants as order;
 ghost use Rattle.smil_model.specs.document.Document.{serial_of, time_parent};
-ghost use Rattle.smil_model.specs.shown.Answers.{Accepts, IsGiven, Refuses, gone_text};
+ghost use Rattle.smil_model.specs.shown.Answers.{Accepts, IsGiven, IsRefusedBy, Refuses, gone_text};
 ghost use Rattle.smil_model.specs.shown.Orders.{IsState, changes_between, node_of};
 ghost use Rattle.smil_grammar.specs.Formats.{formats};
 ghost use Rattle.smil_model.specs.document.Words.{Begins};
@@ -12,7 +12,6 @@ ghost use Rattle.smil_cells.specs.CellsState.{WhereTold};
 ghost use Rattle.smil_live.specs.Counted.{KeepsToCounts};
 ghost use Rattle.smil_live.specs.Counts.{agreed_under, serial_or_0};
 ghost use Rattle.smil_live.specs.Editing.{IsEdited, edit_of};
-ghost use Rattle.smil_revision.specs.Editing.{IsRefusedBy};
 ghost use Rattle.smil_shown.specs.ShownViews.{IsPlaying};
 ghost use Rattle.smil_live.specs.Moves.{IsReplayed, IsTooFull, edited_to, text_of};
 ghost use Rattle.smil_revision.specs.References.{keeps_references};
@@ -23,7 +22,7 @@ use super::replay::{cells_with, diary_through};
 use smil_cells::{Cells, Table};
 use smil_diary::Book;
 use smil_instances::parent_of;
-use smil_model::{Bytes, Doc, Refusal, Steps, Who};
+use smil_model::{Bytes, Refusal, Steps, Who};
 use smil_past::GraphedTree;
 use smil_revision::{
     Child, GraphedDocument, LineText, Revision, Setting, keeps_references, with_child, with_value,
@@ -285,48 +284,36 @@ impl<T: Table> PresentationOver<T> {
             (steps.new - steps.old ≤ most_resolving self.now site edited)) }
     {
         edited.valid();
-        let doc = edited.doc_copy()?;
         let graphed = GraphedTree::of(self.alloc, edited)?;
-        let len = self.staying(&graphed, &doc, site)?;
+        let len = self.staying(&graphed, site)?;
         cells_with(&self.viewer.cells, graphed, len, steps)
     }
 
     // How many entries of the diary stay by an edit, unless memory runs out: those up to the first
     // begin of the time parent of the edited node, with that, where the edit leaves the references
     // as they were.
-    fn staying(&self, graphed: &GraphedTree, doc: &Doc, site: Site) -> Result<usize, AllocError>
+    fn staying(&self, graphed: &GraphedTree, site: Site) -> Result<usize, AllocError>
         requires made { IsMade self.now.document site graphed.now.tree }
-        requires doc { doc.now ≡ graphed.now.tree }
         requires graph { graphed.now.graph.nodes ≡ graphed.now.tree.nodes }
         ensures { IfOk result (λ len. len ≡ staying self.now graphed.now.tree site) }
     {
-        let (serial, parent) = edited_node(self.viewer.cells.tree(), &graphed.tree, doc, site);
-        let keeps = self.keeps_references(serial, graphed, doc)?;
+        let (serial, parent) = edited_node(self.viewer.cells.tree(), &graphed.tree, site);
+        let keeps = self.keeps_references(serial, graphed)?;
         Ok(entries_staying(self.viewer.cells.book(), keeps, parent))
     }
 
     // Whether an edit of a node leaves the references as they were, unless memory runs out.
-    fn keeps_references(
-        &self,
-        serial: u32,
-        graphed: &GraphedTree,
-        doc: &Doc,
-    ) -> Result<bool, AllocError>
-        requires doc { doc.now ≡ graphed.now.tree }
-        requires graph { graphed.now.graph.nodes ≡ graphed.now.tree.nodes }
+    fn keeps_references(&self, serial: u32, graphed: &GraphedTree) -> Result<bool, AllocError>
+        requires { graphed.now.graph.nodes ≡ graphed.now.tree.nodes }
         ensures { IfOk result (λ keeps. keeps
             ≡ keeps_references serial self.now.document.nodes graphed.now.tree.nodes) }
     {
-        let tree = self.viewer.cells.tree();
-        let before = tree.doc_copy()?;
         let old = GraphedDocument {
-            tree,
-            nodes: before.nodes(),
+            tree: self.viewer.cells.tree(),
             graph: self.viewer.cells.past().graph(),
         };
         let new = GraphedDocument {
             tree: &graphed.tree,
-            nodes: doc.nodes(),
             graph: &graphed.graph,
         };
         let revision = Revision {
@@ -364,9 +351,8 @@ impl<T: Table> PresentationOver<T> {
 }
 
 // The serial of the node that was edited, and that of its time parent, if it has one.
-fn edited_node(tree: &Tree, edited: &Tree, doc: &Doc, site: Site) -> (u32, Option<u32>)
-    requires made { IsMade tree.now site edited.now }
-    requires doc { doc.now ≡ edited.now }
+fn edited_node(tree: &Tree, edited: &Tree, site: Site) -> (u32, Option<u32>)
+    requires { IsMade tree.now site edited.now }
     ensures serial { result.0 ≡ site_serial tree.now site }
     ensures parent { result.1 ≡ serial_of
         (time_parent (site_nodes tree.now edited.now site) (site_serial tree.now site)) }
@@ -374,7 +360,7 @@ fn edited_node(tree: &Tree, edited: &Tree, doc: &Doc, site: Site) -> (u32, Optio
     match site {
         Site::Old(serial) => (serial, parent_of(tree, serial)),
         Site::New => {
-            let serial = doc.next() - 1;
+            let serial = edited.next() - 1;
             (serial, parent_of(edited, serial))
         }
     }

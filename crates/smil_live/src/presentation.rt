@@ -1,6 +1,6 @@
 //! A presentation that answers orders.
 
-ghost use Rattle.std.specs.Prelude.{◌≡◌, ◌≤◌, ◌-◌, ◌++◌, ◌⊎◌, drop, length, true, Some, IsSome, Ok, Err, OnOk, OnErr, IfOk, IfErr};
+ghost use Rattle.std.specs.Prelude.{◌≡◌, ◌≤◌, ◌-◌, ◌++◌, drop, length, true, Some, IsSome, Ok, Err, OnOk, OnErr, IfOk, IfErr};
 ghost use Rattle.smil_model.specs.declared.document.Node.{Node as AnyNode};
 ghost use Rattle.smil_model.specs.declared.order.Order.TheVariants as order;
 ghost use Rattle.smil_model.specs.diary.Logs.{is_serial};
@@ -8,7 +8,7 @@ ghost use Rattle.smil_model.specs.document.Document.{node_at};
 ghost use Rattle.smil_model.specs.document.Valid.{IsValid};
 ghost use Rattle.smil_model.specs.happening.Resolution.{diary_of};
 ghost use Rattle.smil_model.specs.shown.Orders.{IsState, course_of, found, node_of, opened};
-ghost use Rattle.smil_model.specs.shown.Answers.{Accepts, IsGiven, Refuses, load_text};
+ghost use Rattle.smil_model.specs.shown.Answers.{Accepts, IsGiven, IsRefusedBy, Refuses, load_text};
 ghost use Rattle.smil_grammar.specs.Formats.{formats};
 ghost use Rattle.smil_cells.specs.CellsState.{WhereTold};
 ghost use Rattle.smil_live.specs.Counted.{KeepsToCounts};
@@ -74,8 +74,7 @@ impl<T: Table> PresentationOver<T> {
         requires { IsValid doc }
         ensures state { IfOk result (λ playing. opened doc ≡ Ok playing) }
         ensures answer { IfOk result (λ playing. out.new ≡ out.old ++ load_text playing) }
-        ensures refused { IfErr result
-            (λ refusal. (refusal ≡ Refusal.Memory) ⊎ (opened doc ≡ Err refusal)) }
+        ensures refused { IfErr result (IsRefusedBy (opened doc)) }
         ensures text { OnErr result (out.new ≡ out.old) }
         ensures counted { steps.old ≤ steps.new }
         ensures most { IfOk result (λ playing. WhereTold T.counts

@@ -215,10 +215,8 @@ fn put_all_values(document: LayeredDocument<'_>, out: &mut Bytes) -> Result<(), 
     ensures begins { Begins out.old out.new }
 {
     document.tree.valid();
-    let mut place = 0;
-    while let Some(target) = document.tree.serial_at(place) {
-        put_values_on(document, target, out)?;
-        place += 1;
+    for node in document.tree.nodes() {
+        put_values_on(document, node.serial, out)?;
     }
     Ok(())
 }

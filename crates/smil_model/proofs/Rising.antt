@@ -1,11 +1,11 @@
 -- Lists in rising order: where a value stands, what is put in and what is taken out, and what insertion has sorted.
-use Rattle.std.proofs.Common.{◌≡◌, refl, sym, ◌∙◌, ap, subst, ℕ, suc, zero, ◌≤◌, ◌+◌, List, [], ◌∷◌, ◌++◌, length, Some, ℤ, Bool, true, false, arith, ◌<◌, inl, inr}
+use Rattle.std.proofs.Common.{◌≡◌, refl, sym, ◌∙◌, ap, ℕ, suc, zero, ◌≤◌, ◌+◌, List, [], ◌∷◌, ◌++◌, length, Some, ℤ, Bool, true, false, arith, ◌<◌, inl, inr}
 use Rattle.std.proofs.lemmas.Bool.{not-true, not-false}
 use Rattle.std.specs.Prelude.{cond, get_or, ◌<◌, flat_map, find, slice_get, not, ◌⊎◌, int_le}
 use Rattle.std.specs.List.{insert, remove}
 use Rattle.std.specs.List.Sorted.{IsPartitionedBy, IsPartitionPoint}
 use Rattle.smil_model.specs.declared.times.Time.{Time}
-use Rattle.smil_model.specs.Times.{time_le, insert_in_order, rising, insert_time, rising_times}
+use Rattle.smil_model.specs.Times.{time_le, rising, rising_times}
 use Rattle.smil_model.proofs.Orders.{numbers_order, times_order}
 use Rattle.smil_model.specs.Rising.{IsOrder, IsRising, IsPlaceFrom, put_in, taken_out, poured}
 
@@ -254,32 +254,10 @@ module _ {A : Type 0} (le : A → A → Bool) (order : IsOrder le) where
       ∙ sym (poured-append (g x) (flat_map g xs) (poured le (f x) (poured le (flat_map f xs) [])))
       ∙ ap (poured le (g x ++ flat_map g xs)) (sym (poured-append (f x) (flat_map f xs) []))
 
--- ---- numbers in rising order
-
-put_number : (x : ℤ) (xs : List ℤ) → put_in int_le x xs ≡ insert_in_order x xs
-put_number x [] = refl
-put_number x (y ∷ ys) = ap (λ rest. cond (int_le x y) (x ∷ y ∷ ys) (y ∷ rest)) (put_number x ys)
-
-pub poured_numbers : (xs : List ℤ) → poured int_le xs [] ≡ rising xs
-poured_numbers [] = refl
-poured_numbers (x ∷ xs) = put_number x (poured int_le xs []) ∙ ap (insert_in_order x) (poured_numbers xs)
+-- ---- numbers, and times
 
 pub rising_rises : (xs : List ℤ) → IsRising int_le (rising xs)
-rising_rises xs =
-    subst (λ (ys : List ℤ). IsRising int_le ys) (poured_numbers xs)
-    (rises_poured int_le numbers_order xs [] (none_rise int_le))
-
--- ---- times in rising order
-
-put_time : (t : Time) (ts : List Time) → put_in time_le t ts ≡ insert_time t ts
-put_time t [] = refl
-put_time t (u ∷ us) = ap (λ rest. cond (time_le t u) (t ∷ u ∷ us) (u ∷ rest)) (put_time t us)
-
-pub poured_times : (ts : List Time) → poured time_le ts [] ≡ rising_times ts
-poured_times [] = refl
-poured_times (t ∷ ts) = put_time t (poured time_le ts []) ∙ ap (insert_time t) (poured_times ts)
+rising_rises xs = rises_poured int_le numbers_order xs [] (none_rise int_le)
 
 pub rising_times_rise : (ts : List Time) → IsRising time_le (rising_times ts)
-rising_times_rise ts =
-    subst (λ (us : List Time). IsRising time_le us) (poured_times ts)
-    (rises_poured time_le times_order ts [] (none_rise time_le))
+rising_times_rise ts = rises_poured time_le times_order ts [] (none_rise time_le)

@@ -5,7 +5,7 @@ use Rattle.std.proofs.Math.Nat.{mul-le-mul_left, one-le-pow, pow-le-pow_right, p
 use Rattle.std.proofs.Math.Seq.{drop-cons}
 use Rattle.std.proofs.lemmas.Bool.{cases_eq, cases_lt}
 use Rattle.std.proofs.lemmas.List.{drop_at, get_or_past}
-use Rattle.smil_model.specs.Tournaments.{at_place, place_up, IsDecided, IsOff, IsSum, IsTournament}
+use Rattle.smil_model.specs.Tournaments.{at_place, place_up, IsDecided, IsOff, IsSum, IsTournament, most_items}
 
 -- ---- the way up
 
@@ -89,10 +89,10 @@ power_up k n half most = by_case (cases_lt 32 k)
         absurd (omega arith)
     by_case (inr low) = pow-le-pow_right two low
 
--- the least power of 2 that is not below a count of at most 2^32 is at most that too
-pub few_places : (half count : ℕ) → (k : ℕ) × (half ≡ 2 ^ k) → half / 2 < max 1 count → count ≤ 2 ^ 32 → half ≤ 2 ^ 32
+-- the least power of 2 that is not below a count of items is at most their greatest number too
+pub few_places : (half count : ℕ) → (k : ℕ) × (half ≡ 2 ^ k) → half / 2 < max 1 count → count ≤ most_items → half ≤ most_items
 few_places half count (k, half_is) tight few =
-    subst (λ (n : ℕ). n ≤ 2 ^ 32) (sym half_is) (power_up k (max 1 count) (subst (λ (n : ℕ). n / 2 < max 1 count) half_is tight) (omega arith))
+    subst (λ (n : ℕ). n ≤ most_items) (sym half_is) (power_up k (max 1 count) (subst (λ (n : ℕ). n / 2 < max 1 count) half_is tight) (omega arith))
 
 -- ---- at first, and after a change
 
@@ -102,7 +102,7 @@ laid half front items all long are =
     (ap length are ∙ length-append front items ∙ ap (λ n. n + length items) long, ap (drop half) are ∙ drop_at front items half long)
 
 module _ {A : Type 0} (none : A) (both : A → A → A) where
-  pub first_made : (places : List A) (half count : ℕ) → (k : ℕ) × (half ≡ 2 ^ k) → count ≤ half → half / 2 < max 1 count → count ≤ 2 ^ 32 → length places ≡ half + count → ((i : ℕ) → 0 < i → i < half → IsDecided none both places i) → IsTournament none both places half
+  pub first_made : (places : List A) (half count : ℕ) → (k : ℕ) × (half ≡ 2 ^ k) → count ≤ half → half / 2 < max 1 count → count ≤ most_items → length places ≡ half + count → ((i : ℕ) → 0 < i → i < half → IsDecided none both places i) → IsTournament none both places half
   first_made places half count power lower upper few whole decided = record {
     height = power.0;
     half_is = power.1;

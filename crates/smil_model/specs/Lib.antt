@@ -1,6 +1,7 @@
 pub mod Times
 pub mod Rising
 pub mod FirstPlaces
+pub mod ListTables
 pub mod Tournaments
 pub mod document
 pub mod diary

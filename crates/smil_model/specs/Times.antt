@@ -3,6 +3,7 @@ use Rattle.std.specs.Prelude.{ℕ, ◌/◌, ℤ, pos, negsuc, neg_ℤ, ◌+ℤ�
 use Rattle.smil_model.specs.declared.times.TheConstants.{CARRIED, HORIZON}
 use Rattle.smil_model.specs.declared.times.Time.{Time}
 use Rattle.smil_model.specs.declared.times.Time.TheVariants.{At, Indefinite, Unresolved}
+use Rattle.smil_model.specs.Rising.{poured}
 
 -- a moment from the first to the horizon
 pub record IsMoment (moment : ℤ) : Type 0 where
@@ -74,23 +75,10 @@ numbers (Unresolved ∷ ts) = numbers ts
 abbrev pub least_of : List Time → Time
 least_of ts = fold least_time Unresolved ts
 
--- a number in its place in a rising list
-abbrev pub insert_in_order : ℤ → List ℤ → List ℤ
-insert_in_order x [] = x ∷ []
-insert_in_order x (y ∷ ys) =
-    let rest = insert_in_order x ys in if int_le x y then x ∷ y ∷ ys else y ∷ rest
-
 -- the numbers in rising order, repetitions kept
 abbrev pub rising : List ℤ → List ℤ
-rising [] = []
-rising (x ∷ xs) = insert_in_order x (rising xs)
-
--- a time in its place in a rising list
-abbrev pub insert_time : Time → List Time → List Time
-insert_time t [] = t ∷ []
-insert_time t (u ∷ us) = let rest = insert_time t us in if time_le t u then t ∷ u ∷ us else u ∷ rest
+rising xs = poured int_le xs []
 
 -- the times in rising order, repetitions kept
 abbrev pub rising_times : List Time → List Time
-rising_times [] = []
-rising_times (t ∷ ts) = insert_time t (rising_times ts)
+rising_times ts = poured time_le ts []

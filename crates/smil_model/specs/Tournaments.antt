@@ -2,6 +2,10 @@
 -- `none` is the item of an empty place, and `both` what comes of two.
 use Rattle.std.specs.Prelude.{◌≡◌, ◌≢◌, ℕ, zero, suc, ◌+◌, ◌/◌, ◌^◌, ◌<◌, ◌≤◌, List, [], ◌∷◌, ◌++◌, length, slice_index_or}
 
+-- the greatest number of items
+abbrev pub most_items : ℕ
+most_items = 2 ^ 32
+
 -- the item at a place; a place past the last one is empty
 abbrev pub at_place : {A : Type 0} → A → List A → ℕ → A
 at_place none places i = slice_index_or places i none
@@ -26,7 +30,7 @@ pub record IsTournament
     {A : Type 0} (none : A) (both : A → A → A) (places : List A) (half : ℕ) : Type 0 where
   pub height : ℕ
   pub half_is : half ≡ 2 ^ height
-  pub few : half ≤ 2 ^ 32
+  pub few : half ≤ most_items
   pub from : half ≤ length places
   pub enough : length places ≤ half + half
   pub decided : (i : ℕ) → 0 < i → i < half → IsDecided none both places i

@@ -12,8 +12,8 @@ use std::marker::Model;
 
 /// The kind of a node: a time container, the priorityClass of an excl, still media, continuous
 /// media, or a `set`, which sets an attribute of another node while it plays. A priorityClass has
-/// no times of its own (SMIL 3.0 Timing, the elements `par`, `seq`, `excl` and `priorityClass`;
-/// SMIL 3.0 Animation, the element `set`).
+/// no times of its own. SMIL 3.0, "The par, seq, excl and priorityClass elements" and "The set
+/// element".
 #[derive(Clone, Copy)]
 pub enum Kind {
     Par,
@@ -65,8 +65,8 @@ pub enum Edge {
     End,
 }
 
-/// An item of a begin or end list, with an offset in milliseconds (SMIL 3.0 Timing, the `begin` and
-/// `end` attributes).
+/// An item of a begin or end list, with an offset in milliseconds. SMIL 3.0, "The begin and
+/// end attributes".
 #[derive(Drop)]
 pub enum Item {
     /// An offset alone, from the play start of the time parent.
@@ -200,7 +200,7 @@ impl Duplicate for Items {
     }
 }
 
-/// A value of `dur` (SMIL 3.0 Timing, the `dur` attribute).
+/// A value of `dur`. SMIL 3.0, "The dur attribute".
 #[derive(Clone, Copy)]
 pub enum Dur {
     /// A length in milliseconds.
@@ -210,7 +210,7 @@ pub enum Dur {
     Indefinite,
 }
 
-/// A value of `repeatCount` (SMIL 3.0 Timing, the `repeatCount` attribute).
+/// A value of `repeatCount`. SMIL 3.0, "The repeatCount attribute".
 #[derive(Clone, Copy)]
 pub enum Count {
     /// A number of iterations, in thousandths.
@@ -218,8 +218,8 @@ pub enum Count {
     Indefinite,
 }
 
-/// A value of `restart`: whether the element may begin again (SMIL 3.0 Timing, the `restart`
-/// attribute).
+/// A value of `restart`: whether the element may begin again. SMIL 3.0, "The restart
+/// attribute".
 #[derive(Clone, Copy)]
 pub enum Restart {
     Always,
@@ -229,8 +229,8 @@ pub enum Restart {
     ByDefault,
 }
 
-/// A value of `restartDefault`: the restart of the element and its descendants that state none
-/// (SMIL 3.0 Timing, the `restartDefault` attribute).
+/// A value of `restartDefault`: the restart of the element and its descendants that state none.
+/// SMIL 3.0, "The restartDefault attribute".
 #[derive(Clone, Copy)]
 pub enum RestartDefault {
     Always,
@@ -240,7 +240,7 @@ pub enum RestartDefault {
     Inherit,
 }
 
-/// A value of `fill`: what is shown after the end (SMIL 3.0 Timing, the `fill` attribute).
+/// A value of `fill`: what is shown after the end. SMIL 3.0, "The fill attribute".
 #[derive(Clone, Copy)]
 pub enum Fill {
     Remove,
@@ -251,8 +251,8 @@ pub enum Fill {
     ByDefault,
 }
 
-/// A value of `fillDefault`: the fill of the element and its descendants that state none (SMIL 3.0
-/// Timing, the `fillDefault` attribute).
+/// A value of `fillDefault`: the fill of the element and its descendants that state none.
+/// SMIL 3.0, "The fillDefault attribute".
 #[derive(Clone, Copy)]
 pub enum FillDefault {
     Remove,
@@ -264,7 +264,7 @@ pub enum FillDefault {
 }
 
 /// A value of `endsync`: the child or the children whose ends decide the implicit duration of a
-/// container (SMIL 3.0 Timing, the `endsync` attribute).
+/// container. SMIL 3.0, "The endsync attribute".
 #[derive(Drop)]
 pub enum Endsync {
     Last,
@@ -286,7 +286,7 @@ impl Duplicate for Endsync {
 }
 
 /// What an excl does when a child begins while another plays: it stops or pauses the playing child,
-/// or defers the newcomer or passes it over (SMIL 3.0 Timing, the `priorityClass` element).
+/// or defers the newcomer or passes it over. SMIL 3.0, "The priorityClass element".
 #[derive(Clone, Copy)]
 pub enum Act {
     Stop,

@@ -3,8 +3,8 @@
 use super::document::{Count, Restart};
 use super::times::Time;
 
-/// An interval of an element, in milliseconds on its time parent's clock (SMIL 3.0 Timing,
-/// evaluation of begin and end time lists).
+/// An interval of an element, in milliseconds on its time parent's clock. SMIL 3.0, "Evaluation of
+/// begin and end time lists".
 #[derive(Clone, Copy, PartialEq, Eq)]
 pub struct Interval {
     pub begin: i64,
@@ -40,8 +40,8 @@ pub enum EndList {
 
 /// What the interval of an element follows from, besides its instance times, in milliseconds. The
 /// attributes' values are those that hold: what an absent or inherited attribute means stands in
-/// their places (SMIL 3.0 Timing, computing the active duration and evaluation of begin and end
-/// time lists).
+/// their places. SMIL 3.0, "Computing the active duration" and "Evaluation of begin and end time
+/// lists".
 #[derive(Clone, Copy)]
 pub struct Facts {
     /// Whether the time parent is active; true for the root.
@@ -67,8 +67,8 @@ pub struct Facts {
     pub repeat_dur: Option<Time>,
 }
 
-/// What `endsync` asks of a time child, in milliseconds on the clock of the container (SMIL 3.0
-/// Timing, the `endsync` attribute).
+/// What `endsync` asks of a time child, in milliseconds on the clock of the container. SMIL 3.0,
+/// "The endsync attribute".
 #[derive(Clone, Copy)]
 pub struct ChildEnd {
     /// Whether the container's `endsync` names this child.

@@ -27,7 +27,7 @@ pub use document::{
 };
 pub use duplicate::{Duplicate, copy_of};
 pub use growing_list::{Bytes, GrowingList, Serials, WordList};
-pub use happening::{Class, Key};
+pub use happening::{BEGIN_CLASS, Class, EMPTY_END_CLASS, END_CLASS, Key};
 pub use interval::{ChildEnd, EndList, Facts, Interval, Play};
 pub use limits::{
     ATTRIBUTE_BYTES, COUNT_THOUSANDTHS, DEPTH, DIARY_ENTRIES, DIGITS, EVENT_BYTES, ID_BYTES, ITEMS,
@@ -35,10 +35,10 @@ pub use limits::{
     TEXT_BYTES,
 };
 pub use order::{Order, Refusal, Who};
-pub use places::{HasSerial, first_places};
+pub use places::{HasSerial, first_places, position_in};
 pub use player::Player;
 pub use references::{references_in, references_in_items, references_in_list};
 pub use steps::Steps;
-pub use times::{CARRIED, HORIZON, Time, greatest, later, least};
+pub use times::{CARRIED, HORIZON, Time, capped, greatest, later, least, moved};
 pub use tournament::{Contender, Tournament};
 pub use view::{How, Layer, Shown, State, View, ViewFacts};

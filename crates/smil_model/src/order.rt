@@ -154,11 +154,11 @@ pub enum Refusal {
     DiaryFull,
     /// Memory ran out.
     Memory,
-    /// What the line asks for is read and not played yet.
+    /// Kept for what a later version may read before it plays it: nothing is refused so.
     NotYet,
     /// A node line gives a serial that is not below the next serial, or that a line before it has.
     BadSerial,
-    /// A line has a wall clock item, and the root has no `id` or has a `begin`.
+    /// Kept for wall clock items, which are not read so far: nothing is refused so.
     NoAnchor,
 }
 

@@ -1,7 +1,8 @@
 //! Where serials stand in a list.
 
-ghost use Rattle.std.specs.Prelude.{◌≡◌, ◌==◌, ℕ, nat_eq, Some, None, IfOk, OnOk, if◌then◌else◌};
+ghost use Rattle.std.specs.Prelude.{◌≡◌, ◌<◌, ◌==◌, ℕ, nat_eq, length, Some, None, IfOk, IfSome, OnOk, if◌then◌else◌};
 ghost use Rattle.std.specs.HashMap.{get};
+ghost use Rattle.std.specs.List.{position};
 ghost use Rattle.std.specs.Option.{option_or};
 ghost use Rattle.smil_model.specs.FirstPlaces.{AreFirstPlaces};
 
@@ -24,6 +25,15 @@ impl HasSerial for u32 {
     fn serial(&self) -> u32 {
         *self
     }
+}
+
+/// The first place of a serial in a list, from 0; None exactly where it isn't there. It takes no
+/// memory.
+pub fn position_in(list: &[u32], serial: u32) -> Option<usize>
+    ensures place { result ≡ position (λ other. other == serial) list.now }
+    ensures bound { IfSome result (λ place. place < length list.now) }
+{
+    list.iter().position(|other| *other == serial)
 }
 
 /// The place of each serial in a list, from 0; of a serial that stands there twice the first one.

@@ -1,7 +1,7 @@
 //! Time values: a number of milliseconds, indefinite or unresolved.
 
-ghost use Rattle.std.specs.Prelude.{◌≡◌};
-ghost use Rattle.smil_model.specs.Times.{later_time, least_time, greatest_time};
+ghost use Rattle.std.specs.Prelude.{◌≡◌, ◌+ℤ◌};
+ghost use Rattle.smil_model.specs.Times.{within_horizon, later_time, least_time, greatest_time};
 
 /// The latest moment and the greatest time value, in milliseconds.
 pub const HORIZON: i64 = 1_000_000_000_000;
@@ -9,9 +9,8 @@ pub const HORIZON: i64 = 1_000_000_000_000;
 /// The greatest number that is carried from one clock to another, in milliseconds.
 pub const CARRIED: i64 = 10_000_000_000_000;
 
-/// A time value. Numbers stand below indefinite, and indefinite below unresolved (SMIL 3.0 Timing,
-/// computing the active duration). The place where the value stands says on which clock a number
-/// is.
+/// A time value. Numbers stand below indefinite, and indefinite below unresolved. The place where
+/// the value stands says on which clock a number is. SMIL 3.0, "Computing the active duration".
 #[derive(Clone, Copy, PartialEq, Eq)]
 pub enum Time {
     /// A number of milliseconds, which may be negative.
@@ -22,23 +21,35 @@ pub enum Time {
     Unresolved,
 }
 
-/// The time `by` milliseconds later. A sum above the horizon is indefinite, and one below minus the
-/// horizon is minus the horizon. Indefinite and unresolved stay. It has no condition and takes no
+/// A sum as a time: indefinite above the horizon, and minus the horizon below that. It has no
+/// condition and takes no memory.
+pub fn capped(sum: i128) -> Time
+    ensures { result ≡ within_horizon sum }
+{
+    if sum > i128::from(HORIZON) {
+        Time::Indefinite
+    } else if sum < -i128::from(HORIZON) {
+        Time::At(-HORIZON)
+    } else {
+        Time::At(sum as i64)
+    }
+}
+
+/// The time `by` milliseconds after the number `from`, capped. It has no condition and takes no
 /// memory.
+pub fn moved(from: i64, by: i64) -> Time
+    ensures { result ≡ within_horizon (from +ℤ by) }
+{
+    capped(i128::from(from) + i128::from(by))
+}
+
+/// The time `by` milliseconds later, capped. Indefinite and unresolved stay. It has no condition
+/// and takes no memory.
 pub fn later(time: Time, by: i64) -> Time
     ensures { result ≡ later_time time by }
 {
     match time {
-        Time::At(value) => {
-            let sum = i128::from(value) + i128::from(by);
-            if sum > i128::from(HORIZON) {
-                Time::Indefinite
-            } else if sum < -i128::from(HORIZON) {
-                Time::At(-HORIZON)
-            } else {
-                Time::At(sum as i64)
-            }
-        }
+        Time::At(value) => moved(value, by),
         other => other,
     }
 }

@@ -1,7 +1,7 @@
 //! Items under a tournament of what comes of them.
 
-ghost use Rattle.std.specs.Prelude.{◌≡◌, ℕ, ◌+◌, ◌*◌, ◌/◌, ◌<◌, ◌≤◌, ◌^◌, List, IfOk, length, drop, slice_set};
-ghost use Rattle.smil_model.specs.Tournaments.{at_place, IsDecided, IsOff, IsSum};
+ghost use Rattle.std.specs.Prelude.{◌≡◌, ℕ, ◌+◌, ◌*◌, ◌/◌, ◌<◌, ◌≤◌, List, IfOk, length, drop, slice_set};
+ghost use Rattle.smil_model.specs.Tournaments.{at_place, IsDecided, IsOff, IsSum, most_items};
 
 use super::duplicate::Duplicate;
 use std::alloc::{AllocError, Global};
@@ -58,7 +58,7 @@ impl<T: Contender> Tournament<T> {
     /// These items, at most 2^32. It takes a step and memory for each; refused where memory runs
     /// out.
     pub fn of(alloc: Global, items: &[T]) -> Result<Tournament<T>, AllocError>
-        requires { length items.now ≤ 2 ^ 32 }
+        requires { length items.now ≤ most_items }
         ensures { IfOk result (λ made. made ≡ items.now) }
     {
         let half = items.len().next_power_of_two();
@@ -89,7 +89,7 @@ impl<T: Contender> Tournament<T> {
 
 // Decides all places below the first item, from the last one up.
 fn decide_all<T: Contender>(places: &mut [T], half: usize)
-    requires half { half ≤ 2 ^ 32 }
+    requires half { half ≤ most_items }
     requires from { half ≤ length places.old }
     ensures decided { (i : ℕ) → 0 < i → i < half → IsDecided T.none T.both places.new i }
     ensures kept { drop half places.new ≡ drop half places.old }
@@ -105,7 +105,7 @@ fn decide_all<T: Contender>(places: &mut [T], half: usize)
 fn decide_above<T: Contender>(places: &mut [T], half: usize, place: usize)
     requires within { place < half + half }
     requires above { 0 < place }
-    requires half { half ≤ 2 ^ 32 }
+    requires half { half ≤ most_items }
     requires from { half ≤ length places.old }
     requires off { (i : ℕ) → 0 < i → i < half → IsOff i (place / 2)
         → IsDecided T.none T.both places.old i }
@@ -122,7 +122,7 @@ fn decide_above<T: Contender>(places: &mut [T], half: usize, place: usize)
 // Decides a place by the two below it.
 fn decide<T: Contender>(places: &mut [T], place: usize)
     requires within { place < length places.old }
-    requires few { place < 2 ^ 32 }
+    requires few { place < most_items }
     ensures { places.new ≡ slice_set places.old place (T.both
         (at_place T.none places.old (2 * place)) (at_place T.none places.old (2 * place + 1))) }
 {

@@ -60,7 +60,8 @@ pub struct ViewFacts {
     pub cut: bool,
     /// The fill that holds: never `Auto` or `ByDefault`.
     pub fill: Fill,
-    /// Whether another child began or resumed after the last end, in a seq or an excl.
+    /// Whether another child began or resumed after the last end, in a seq or an excl, or the next
+    /// child of a seq began since birth.
     pub displaced: bool,
     /// Whether the time parent is active or frozen, or there is none.
     pub parent_shows: bool,

@@ -16,12 +16,11 @@ use Rattle.smil_model.specs.reach.Bounds.{reaches}
 use Rattle.smil_laws.specs.Edited.{IsOrdered}
 use Rattle.smil_graph.specs.Graph.{IsGraphOrder}
 use Rattle.smil_cells.specs.declared.plain.current_rows.CurrentRow.{CurrentRow}
-use Rattle.smil_cells.specs.Plain.{interval_in}
+use Rattle.smil_cells.specs.Plain.{AreCurrent, interval_in}
 use Rattle.smil_cells.specs.Round.{AreRowsEvaluated, StayUnchanged}
 use Rattle.smil_cells.specs.CellsState.{any_interval, fresh, is_same_interval}
 use Rattle.smil_cells.proofs.Current.{all_current}
 use Rattle.smil_cells.proofs.OnWay.{same_self}
-use Rattle.smil_nodes.specs.Schedule.{AreCurrent}
 use Rattle.smil_nodes.specs.Work.{AreSettled, IsCounted}
 use Rattle.smil_nodes.proofs.Counting.{passing_within, within_reaches}
 use Rattle.smil_nodes.proofs.Fixed.{current_intervals}
@@ -30,8 +29,7 @@ use Rattle.smil_laws.proofs.Lists.{filter_shorter}
 -- rows that are as the intervals of all give them are current
 pub taken_current : (h : History) (now : ℤ) (order : List ℕ) (rows : List CurrentRow) → IsOrdered h.nodes → IsGraphOrder h.nodes order → AreRowsEvaluated h now order (length order) rows → AreCurrent rows h now
 taken_current h now order rows ordered is taken =
-    let all = all_current h now order rows ordered is taken in
-    record { rows_are = all.rows_are; comings_are = all.comings_are }
+    (all_current h now order rows ordered is taken).current
 
 pub settled_current : (h : History) (now : ℤ) (order : List ℕ) (listed : ℕ → Bool) (rows : List CurrentRow) → IsOrdered h.nodes → IsGraphOrder h.nodes order → AreSettled h now order listed rows → ((r : ℕ) → listed r ≡ false) → AreCurrent rows h now
 settled_current h now order listed rows ordered is settled none =

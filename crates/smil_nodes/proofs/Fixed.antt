@@ -6,15 +6,14 @@ use Rattle.smil_model.specs.declared.document.Node.{Node}
 use Rattle.smil_model.specs.document.Document.{elements, node_at, serials}
 use Rattle.smil_model.specs.diary.Diary.{History}
 use Rattle.smil_model.specs.interval.Current.{interval_given, simple_of, current_interval}
-use Rattle.smil_model.specs.happening.Keys.{coming_of}
+use Rattle.smil_model.specs.happening.Keys.{coming_by, coming_of}
 use Rattle.smil_laws.specs.Edited.{IsOrdered}
 use Rattle.smil_laws.specs.Locality.{ParentsBefore}
 use Rattle.smil_laws.proofs.Rounds.{after_rounds, after_rounds-suc}
 use Rattle.smil_laws.proofs.Settled.{come_to_rest}
-use Rattle.smil_element.specs.Element.{coming_by}
 use Rattle.smil_cells.specs.declared.plain.current_rows.CurrentRow.{CurrentRow}
 use Rattle.smil_cells.specs.Plain as plain
-use Rattle.smil_cells.specs.Plain.{interval_in}
+use Rattle.smil_cells.specs.Plain.{AreCurrent, interval_in}
 use Rattle.smil_cells.specs.Round.{IsRowOf}
 use Rattle.smil_cells.proofs.Rows.{IsFirst}
 use Rattle.smil_cells.proofs.Paired.{first_at, interval_at, there_at}
@@ -22,13 +21,12 @@ use Rattle.smil_cells.proofs.Current as current
 use Rattle.smil_cells.proofs.Taking.{elements_differ}
 use Rattle.std.specs.FinSet as set
 use Rattle.smil_model.specs.happening.Keys.{keys}
-use Rattle.smil_nodes.specs.Schedule.{AreCurrent}
 use Rattle.smil_cells.proofs.First.{comings_at}
 
 -- ---- current rows
 
 pub plain_current : (rows : List CurrentRow) (h : History) (now : ℤ) → AreCurrent rows h now → plain.IsCurrent rows (set.from_list (keys h now)) h now
-plain_current rows h now are = record { rows_are = are.rows_are; comings_are = are.comings_are; due_is = refl }
+plain_current rows h now are = record { current = are; due_is = refl }
 
 -- they have the current intervals
 pub current_intervals : (rows : List CurrentRow) (h : History) (now : ℤ) → AreCurrent rows h now → (s : ℕ) → interval_in rows s ≡ current_interval h now s

@@ -20,8 +20,9 @@ use Rattle.smil_cells.specs.Rows.{IsChosen, empty_row}
 use Rattle.smil_cells.proofs.First.{first_by_key, none_first}
 use Rattle.smil_cells.proofs.Keyed.{key_of}
 use Rattle.smil_cells.proofs.Taking.{elements_few}
+use Rattle.smil_cells.specs.Plain.{AreCurrent}
 use Rattle.smil_nodes.specs.Slots.{keys_in}
-use Rattle.smil_nodes.specs.Schedule.{AreCurrent, slot_of, slots_of}
+use Rattle.smil_nodes.specs.Schedule.{slot_of, slots_of}
 use Rattle.smil_nodes.proofs.Fixed.{plain_current}
 
 pub slots_length : (rows : List CurrentRow) → length (slots_of rows) ≡ length rows + length rows

@@ -5,18 +5,17 @@ use Rattle.std.specs.List.{IsDistinct, position}
 use Rattle.smil_model.specs.declared.document.Node.{Node}
 use Rattle.smil_model.specs.document.Document.{elements, node_at}
 use Rattle.smil_model.specs.interval.Current.{simple_of}
+use Rattle.smil_model.specs.happening.Keys.{coming_by}
 use Rattle.smil_laws.specs.Edited.{IsOrdered}
 use Rattle.smil_laws.specs.Touched.{GivesSame, in_reaches, is_touched_by}
 use Rattle.smil_laws.proofs.TouchedStay.{leaves_untouched}
 use Rattle.smil_graph.specs.Graph.{IsGraphOrder}
-use Rattle.smil_element.specs.Element.{coming_by}
 use Rattle.smil_past.specs.Past.{MarkedHistory, front, history_of}
 use Rattle.smil_cells.specs.declared.plain.current_rows.CurrentRow.{CurrentRow}
-use Rattle.smil_cells.specs.Plain.{interval_in}
+use Rattle.smil_cells.specs.Plain.{AreCurrent, interval_in}
 use Rattle.smil_cells.specs.Round.{IsRowOf}
 use Rattle.smil_cells.proofs.Paired.{first_at, interval_at, there_at}
 use Rattle.smil_cells.proofs.Taking.{elements_differ}
-use Rattle.smil_nodes.specs.Schedule.{AreCurrent}
 use Rattle.smil_nodes.specs.Noted.{is_noted_by}
 use Rattle.smil_nodes.specs.Work.{AreSettled}
 use Rattle.smil_nodes.proofs.Fixed.{current_elements, row_of_current}

@@ -3,11 +3,10 @@ use Rattle.std.specs.Prelude.{◌≡◌, ℤ, List, Bool, true, false}
 use Rattle.smil_model.specs.diary.Diary.{History}
 use Rattle.smil_laws.specs.Same.{IsSame}
 use Rattle.smil_cells.specs.declared.plain.current_rows.CurrentRow.{CurrentRow}
-use Rattle.smil_cells.specs.Plain.{interval_in}
+use Rattle.smil_cells.specs.Plain.{AreCurrent, interval_in, stay_current}
 use Rattle.smil_nodes.specs.declared.live.LiveTable.{LiveTable}
 use Rattle.smil_nodes.specs.declared.undo.Note.{Note}
 use Rattle.smil_nodes.specs.Endings.{KeptEnds, AreKnown, anyone, stay_known}
-use Rattle.smil_nodes.specs.Schedule.{AreCurrent, stay_current}
 use Rattle.smil_nodes.specs.Undo.{ends_back, rows_back}
 
 -- the rows are current, and all ends are right by their intervals

@@ -1,6 +1,7 @@
 //! A tournament of keys.
 
-ghost use Rattle.std.specs.Prelude.{◌≡◌, ◌<◌, ◌≤◌, ◌^◌, None, IfOk, length, replicate, slice_set};
+ghost use Rattle.std.specs.Prelude.{◌≡◌, ◌<◌, ◌≤◌, None, IfOk, length, replicate, slice_set};
+ghost use Rattle.smil_model.specs.Tournaments.{most_items};
 ghost use Rattle.smil_model.specs.happening.Keys.{least_key};
 ghost use Rattle.smil_nodes.specs.Slots.{earlier_of, keys_in};
 
@@ -63,7 +64,7 @@ impl Duplicate for DueTree {
 impl DueTree {
     /// So many slots without keys, at most 2^32. Refused where memory runs out.
     pub fn new(alloc: Global, count: usize) -> Result<DueTree, AllocError>
-        requires { count ≤ 2 ^ 32 }
+        requires { count ≤ most_items }
         ensures { IfOk result (λ tree. tree ≡ replicate count None) }
     {
         let slots = Vec::from_elem(alloc, Slot::none(), count)?;

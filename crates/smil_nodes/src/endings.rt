@@ -1,7 +1,6 @@
 //! The ends of the time children of each element, kept while the endings of elements change.
 
-ghost use Rattle.std.specs.Prelude.{◌≡◌, ◌==◌, ◌<◌, [], Some, true, length, map, slice_get, slice_index_or, IfOk};
-ghost use Rattle.std.specs.List.{position};
+ghost use Rattle.std.specs.Prelude.{◌≡◌, ◌<◌, [], Some, true, length, map, slice_get, slice_index_or, IfOk};
 ghost use Rattle.smil_model.specs.declared.document.Node.{Node as AnyNode};
 ghost use Rattle.smil_model.specs.document.Document.{elements, node_at};
 ghost use Rattle.smil_model.specs.document.Closure.{has};
@@ -13,9 +12,9 @@ ghost use Rattle.smil_nodes.specs.Endings.{AreHomes, HasHome, ending_in, home_at
 
 use super::schedule::Schedule;
 use smil_element::{Ending, is_named};
-use smil_endsync::Ends;
+use smil_endsync::{Ends, by_endsync};
 use smil_instance_rows::copy_each;
-use smil_model::{Attrs, ChildEnd, Duplicate, Endsync, Kind, Time};
+use smil_model::{Attrs, ChildEnd, Duplicate, Kind, Time, position_in};
 use smil_tree::Tree;
 use std::alloc::{AllocError, Global};
 use std::marker::Model;
@@ -118,18 +117,8 @@ impl Endings {
         ensures { result ≡ container_duration kind (endsync_of attrs.now) start
             (slice_index_or self.now.ends index []) }
     {
-        end_by(&self.ends[index], kind, attrs, start)
-    }
-}
-
-// The implicit duration of an active container of this kind and with these attributes, by the ends
-// of its time children; `last` where it has no `endsync`.
-fn end_by(ends: &Ends, kind: Kind, attrs: &Attrs, start: i64) -> Time
-    ensures { result ≡ container_duration kind (endsync_of attrs.now) start ends.now }
-{
-    match &attrs.endsync {
-        Some(endsync) => ends.implicit(kind, endsync, start),
-        None => ends.implicit(kind, &Endsync::Last, start),
+        let ends = &self.ends[index];
+        by_endsync(attrs, |endsync| ends.implicit(kind, endsync, start))
     }
 }
 
@@ -186,14 +175,7 @@ fn place_among(serials: &[u32], who: u32, expected: usize) -> usize
     if is_at(serials, expected, who) {
         return expected;
     }
-    position_of(serials, who).unwrap()
-}
-
-// The first place of a serial among others.
-fn position_of(serials: &[u32], who: u32) -> Option<usize>
-    ensures { result ≡ position (λ s. s == who) serials.now }
-{
-    serials.iter().position(|serial| *serial == who)
+    position_in(serials, who).unwrap()
 }
 
 // Whether a serial stands at a place.

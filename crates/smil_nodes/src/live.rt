@@ -26,6 +26,7 @@ use super::undo::{Note, Undo};
 use smil_cells::plain::current_rows::{CurrentRow, IndexedElement, row_of};
 use smil_cells::{Cells, Since, Table};
 use smil_element::{DueChange, Ending, Intervals, Present, Room, ending_of};
+use smil_interval::is_same_interval;
 use smil_model::{Duplicate, Interval, Serials, Steps};
 use smil_past::Past;
 use std::alloc::{AllocError, Global};
@@ -237,7 +238,7 @@ impl LiveTable {
         let row = row_of(&element, &sources, &mut self.room, steps)?;
         let before = self.schedule.interval(who);
         self.replace(index, row, ending_of(present.past, who, row.interval))?;
-        Ok(differ(before, row.interval))
+        Ok(!is_same_interval(before, row.interval))
     }
 
     // Puts a row in the place of the one that its element has, and the ending of the element; what
@@ -276,11 +277,4 @@ fn put_back(schedule: &mut Schedule, endings: &mut Endings, noted: Note)
     };
     schedule.put(index, noted.row);
     endings.put(index, noted.ending);
-}
-
-// Whether two intervals, which may be absent, differ.
-fn differ(a: Option<Interval>, b: Option<Interval>) -> bool
-    ensures { result ≡ false → a ≡ b }
-{
-    a != b
 }

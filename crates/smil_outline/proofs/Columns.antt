@@ -26,8 +26,8 @@ use Rattle.smil_grammar.specs.Results.{◌>>=◌}
 use Rattle.smil_grammar.specs.Texts.{is_white, trim, behind}
 use Rattle.smil_grammar.specs.Items.{item_of}
 use Rattle.smil_grammar.specs.Items.{count_of as count_in}
-use Rattle.smil_grammar.specs.Lists.{item_at, piece_at, items_from, few_items, pieces_of, is_plain, plain_at, list_of}
-use Rattle.smil_grammar.specs.Values.{id_of, attribute_name_of, restart_default_of, fill_default_of, dur_of, time_of, count_of, repeat_dur_of, restart_of, fill_of, endsync_of, peers_of, higher_of, lower_of, kept_of, is_other_value, of_list, of_value, plain_value_of, value_of}
+use Rattle.smil_grammar.specs.Lists.{item_at, piece_at, items_from, few_items, item_pieces, is_plain, plain_at, list_of}
+use Rattle.smil_grammar.specs.Values.{id_of, attribute_name_of, restart_default_of, fill_default_of, dur_of, time_of, repeat_count_of, repeat_dur_of, restart_of, fill_of, endsync_of, peers_of, higher_of, lower_of, kept_of, is_other_value, of_list, of_value, plain_value_of, value_of}
 use Rattle.smil_grammar.specs.Clock.{clock_within}
 use Rattle.smil_grammar.specs.Attributes.{attr_name_of, name_called, name_or, unnamed, is_other_name, has, kind_called, is_other_kind}
 use Rattle.smil_grammar.specs.Nodes.{is_space, is_of_kind, is_named, WrittenAttr, attribute_at, attributes_at, with_written, Shape, shaped, shape_of, with_serial, shape_behind, saved_shape_of, repeats, kind_or, kind_of_shape, column_at, at_column, attribute_of, attr_of, attrs_from}
@@ -81,9 +81,9 @@ items_near m first place (piece ∷ pieces) le h =
 
 few_near : (first : Option ℕ) (text : List ℕ) → IfSome first (λ p. p ≤ length text) → IfErr (few_items first text) (ListPlace (length text))
 few_near first text h =
-    let len : joined_len (pieces_of text) ≡ length text + 1 = split_len 59 text in
-    cond_both (ltb 32 (length (pieces_of text))) (Err list_fault.TooManyItems) (items_from first 0 (pieces_of text)) (λ r. IfErr r (ListPlace (length text)))
-    (λ e. tt) (λ e. items_near (length text) first 0 (pieces_of text) (omega arith) h)
+    let len : joined_len (item_pieces text) ≡ length text + 1 = split_len 59 text in
+    cond_both (ltb 32 (length (item_pieces text))) (Err list_fault.TooManyItems) (items_from first 0 (item_pieces text)) (λ r. IfErr r (ListPlace (length text)))
+    (λ e. tt) (λ e. items_near (length text) first 0 (item_pieces text) (omega arith) h)
 
 list_near : (in_seq : Bool) (text : List ℕ) → IfErr (list_of in_seq text) (ListPlace (length text))
 list_near false text = few_near None text tt
@@ -117,7 +117,7 @@ plain_near in_seq name.Dur text = of_value_near _ attr.Dur (dur_of (trim text))
 plain_near in_seq name.End text = of_list_near _ attr.End (list_of false text) (list_near false text)
 plain_near in_seq name.Min text = of_value_near _ _ (clock_within (trim text))
 plain_near in_seq name.Max text = of_value_near _ attr.Max (time_of (trim text))
-plain_near in_seq name.RepeatCount text = of_value_near _ attr.RepeatCount (count_of (trim text))
+plain_near in_seq name.RepeatCount text = of_value_near _ attr.RepeatCount (repeat_count_of (trim text))
 plain_near in_seq name.RepeatDur text = of_value_near _ attr.RepeatDur (repeat_dur_of (trim text))
 plain_near in_seq name.Restart text = of_value_near _ attr.Restart (restart_of (trim text))
 plain_near in_seq name.Fill text = of_value_near _ attr.Fill (fill_of (trim text))

@@ -1,5 +1,5 @@
 -- What some text is read as fits the kinds of a node and its parent.
-use Rattle.std.proofs.Common.{◌≡◌, ℕ, suc, ◌<◌, ◌≤◌, Bool, true, false, not, cond, eqb, ltb, leb, ◌&&◌, ◌||◌, List, [], ◌∷◌, length, Option, Some, None, option_map, is_some, refl, subst, arith}
+use Rattle.std.proofs.Common.{◌≡◌, ℕ, suc, ◌<◌, ◌≤◌, Bool, true, false, not, cond, eqb, ltb, leb, ◌&&◌, ◌||◌, List, [], ◌∷◌, length, Option, Some, None, option_map, is_some, Ok, refl, subst, arith}
 use Rattle.std.specs.Prelude.{ℤ, pos, negsuc, codes, bytes_eq, IfOk, IfSome, IsTrue}
 use Rattle.std.specs.List.{AllByRecursion, list_all}
 use Rattle.std.proofs.lemmas.Bool.{not_from_true, not-true, le-leb, lt-ltb, cond_both}
@@ -22,14 +22,16 @@ use Rattle.smil_model.specs.declared.document.Act.{Act}
 use Rattle.smil_model.specs.declared.times.Time.{Time}
 use Rattle.smil_model.specs.declared.times.Time.TheVariants as time
 use Rattle.smil_model.specs.document.Document.{is_class_kind, is_set_kind}
+use Rattle.smil_model.specs.document.Edits.{with_attr}
 use Rattle.smil_model.specs.document.Words.{is_of_name, is_of_id, is_word, is_id, is_event_name, is_attribute_name, is_kept_text}
 use Rattle.smil_model.specs.document.Values.{absent_or, is_clock, is_offset, is_item, is_list, is_plain_begin, is_begin, is_dur, is_bound, is_positive_bound, is_count, is_endsync, is_higher, is_lower, has_endsync, has_class_attrs, has_set_attrs, has_media_attrs, has_element_attrs, are_element_values, is_seq_parent, fit_kind}
 use Rattle.smil_grammar.specs.Texts.{trim}
 use Rattle.smil_grammar.specs.Clock.{clock_within}
 use Rattle.smil_grammar.specs.Items.{IsItem}
 use Rattle.smil_grammar.specs.Lists.{is_plain, list_of, IsList}
-use Rattle.smil_grammar.specs.Values.{above_zero, id_of, attribute_name_of, restart_default_of, fill_default_of, kept_of, dur_of, time_of, repeat_dur_of, count_of, restart_of, fill_of, endsync_of, peers_of, higher_of, lower_of, is_other_value, plain_value_of}
+use Rattle.smil_grammar.specs.Values.{above_zero, id_of, attribute_name_of, restart_default_of, fill_default_of, kept_of, dur_of, time_of, repeat_dur_of, repeat_count_of, restart_of, fill_of, endsync_of, peers_of, higher_of, lower_of, is_other_value, plain_value_of}
 use Rattle.smil_grammar.specs.Allowed.{IsAttr, IsAttrs}
+use Rattle.smil_grammar.specs.Nodes.{attribute_of}
 use Rattle.smil_lexis.proofs.Fronts.{tests_pass}
 use Rattle.smil_lexis.proofs.Words.{IsWord}
 use Rattle.smil_model.specs.Times.{IsNear}
@@ -38,9 +40,10 @@ use Rattle.smil_attrs.proofs.Readings.{IsSmall, IsLength, value, any_value, list
 use Rattle.smil_attrs.proofs.Cases.{dur_reads, time_reads, repeat_reads, count_reads, higher_reads, lower_reads, endsync_reads}
 use Rattle.smil_attrs.proofs.Counts.{IsCount}
 use Rattle.smil_attrs.proofs.Tables.{each_kind}
-use Rattle.smil_attrs.proofs.Kept.{lists}
+use Rattle.smil_attrs.proofs.Kept.{lists, with_stays}
+use Rattle.smil_attrs.proofs.Noded.{attribute_is}
 use Rattle.smil_attrs.proofs.Words.{whole_id}
-use Rattle.smil_outline.proofs.Fitting.{IsInRange}
+use Rattle.smil_outline.proofs.Fitting.{IsInRange, fits}
 
 -- words
 
@@ -156,7 +159,7 @@ repeat_ranged text = repeat_reads LengthIs refl one text
 abbrev CountIs : Count → Type 0
 CountIs c = is_count c ≡ true
 
-count_ranged : (text : List ℕ) → IfSome (count_of text) CountIs
+count_ranged : (text : List ℕ) → IfSome (repeat_count_of text) CountIs
 count_ranged text = count_reads CountIs refl counted text
   where
     counted : (n : ℕ) → IsCount n → CountIs (count.Thousandths n)
@@ -199,7 +202,7 @@ any in_seq name.Dur text e = value attr.Dur DurIs (IsInRange in_seq) (λ x h. h)
 any in_seq name.End text e = listed attr.End (IsList false) (IsInRange in_seq) (list_ranged false) (list_of false text) (lists false text _ refl)
 any in_seq name.Min text e = value (λ n. attr.Min (pos n)) IsSmall (IsInRange in_seq) clock_ranged (clock_within (trim text)) (clock_small (trim text))
 any in_seq name.Max text e = value attr.Max TimeIs (IsInRange in_seq) (λ x h. h) (time_of (trim text)) (time_ranged (trim text))
-any in_seq name.RepeatCount text e = value attr.RepeatCount CountIs (IsInRange in_seq) (λ x h. h) (count_of (trim text)) (count_ranged (trim text))
+any in_seq name.RepeatCount text e = value attr.RepeatCount CountIs (IsInRange in_seq) (λ x h. h) (repeat_count_of (trim text)) (count_ranged (trim text))
 any in_seq name.RepeatDur text e = value attr.RepeatDur LengthIs (IsInRange in_seq) (λ x h. h) (repeat_dur_of (trim text)) (repeat_ranged (trim text))
 any in_seq name.Restart text e = any_value attr.Restart (IsInRange in_seq) (λ x. tt) (restart_of (trim text))
 any in_seq name.Fill text e = any_value attr.Fill (IsInRange in_seq) (λ x. tt) (fill_of (trim text))
@@ -324,3 +327,9 @@ ranges k parent attrs h =
     cond_both (is_class_kind k) (not (has_element_attrs attrs) && absent_or is_higher attrs.higher && absent_or is_lower attrs.lower) (not (has_class_attrs attrs) && are_element_values (is_seq_parent parent) attrs && (has_endsync k || not (is_some attrs.endsync)) && not (cond (is_set_kind k) (has_media_attrs attrs) (has_set_attrs attrs)))
     (λ t. t ≡ true) (λ class. class_ranged (is_seq_parent parent) k attrs class h) (λ class. element_ranged (is_seq_parent parent) k attrs class h) in
     rw (id, rest) refl
+
+-- an attribute that is read for a node, among those that the node has
+pub given_fits : (k : Kind) (parent : Option Kind) (attrs : Attrs) (name value : List ℕ) (given : Attr) → fit_kind k parent attrs ≡ true → attribute_of (is_seq_parent parent) k name value ≡ Ok given → fit_kind k parent (with_attr attrs given) ≡ true
+given_fits k parent attrs name value given fit read =
+    let had = attribute_is (is_seq_parent parent) k name value given read in
+    ranges k parent (with_attr attrs given) (with_stays (is_seq_parent parent) k attrs given (fits k parent attrs fit) had.0 had.1)

@@ -23,7 +23,7 @@ pub record IsNoted
   pub numbered :
       (serial : ℕ) → has serials serial ≡ list_any (λ (n : Node). n.serial == serial) nodes
 
--- a kind that is a class beside one that is none, or the other way round
+-- whether one of a node and a kind is a class and the other is none
 abbrev pub differs : Option (ℕ × Kind) → Kind → Bool
 differs None kind = false
 differs (Some node) kind = not (same_test (is_class_kind node.1) (is_class_kind kind))
@@ -43,6 +43,7 @@ pub record IsAlike (nodes : List Node) (node : ℕ × Kind) (below : List (ℕ �
   pub once : list_any (λ (other : ℕ × Kind). other.0 == node.0) below ≡ false
   pub alike : (kind : Kind) → mixes nodes (Some node) kind ≡ differs (slice_get below 0) kind
 
+-- each node on the branch has children that are alike
 abbrev pub AreAlike : List Node → List (ℕ × Kind) → Type 0
 AreAlike nodes [] = Unit {0}
 AreAlike nodes (node ∷ below) = IsAlike nodes node below × AreAlike nodes below

@@ -58,6 +58,7 @@ pub record StandsWithin (bytes : ℕ) (written : WrittenAttr) : Type 0 where
   pub name : written.name_place ≤ bytes
   pub value : written.value_place + length written.value ≤ bytes
 
+-- attributes that all stand within so many bytes
 abbrev pub AllWithin : ℕ → List WrittenAttr → Type 0
 AllWithin bytes [] = Unit {0}
 AllWithin bytes (written ∷ others) = StandsWithin bytes written × AllWithin bytes others
@@ -66,10 +67,14 @@ AllWithin bytes (written ∷ others) = StandsWithin bytes written × AllWithin b
 abbrev pub IsInLine : Shape → Type 0
 IsInLine shape = AllWithin (LINE_BYTES + 1) shape.attributes
 
+-- the greatest column that a fault of a line names
+abbrev pub last_column : ℕ
+last_column = LINE_BYTES + 3
+
 -- a column that a line can have
 abbrev pub IsNear : NodeFault → Type 0
-IsNear (Unsupported column) = column ≤ LINE_BYTES + 3
-IsNear (UnknownAttribute column) = column ≤ LINE_BYTES + 3
-IsNear (BadValue column) = column ≤ LINE_BYTES + 3
-IsNear (TooManyItems column) = column ≤ LINE_BYTES + 3
+IsNear (Unsupported column) = column ≤ last_column
+IsNear (UnknownAttribute column) = column ≤ last_column
+IsNear (BadValue column) = column ≤ last_column
+IsNear (TooManyItems column) = column ≤ last_column
 IsNear _ = Unit {0}

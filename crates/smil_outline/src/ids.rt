@@ -41,8 +41,8 @@ impl Ids {
     /// Puts in an id; one that is there already stays, once. Where memory runs out the ids are as
     /// before.
     pub fn put(&mut self, id: Vec<u8>) -> Result<(), AllocError>
-        ensures ok { OnOk result ((other : List ℕ)
-            → is_among_ids self.new other ≡ (is_among_ids self.old other || bytes_eq id.items other)) }
+        ensures ok { OnOk result ((other : List ℕ) → is_among_ids self.new other
+            ≡ (is_among_ids self.old other || bytes_eq id.items other)) }
         ensures err { OnErr result (self.new ≡ self.old) }
     {
         self.ids.insert(id)?;

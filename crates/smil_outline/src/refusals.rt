@@ -3,7 +3,7 @@
 ghost use Rattle.std.specs.Prelude.{◌≡◌, ◌≤◌, ◌+◌};
 ghost use Rattle.smil_model.specs.declared.limits.TheConstants.{LINE_BYTES};
 ghost use Rattle.smil_grammar.specs.Outlines.{refused as refused_line};
-ghost use Rattle.smil_outline.specs.Steps.{IsNear};
+ghost use Rattle.smil_outline.specs.Steps.{IsNear, last_column};
 
 use smil_attrs::NodeFault;
 use smil_model::Refusal;
@@ -11,7 +11,7 @@ use smil_model::Refusal;
 // A column behind so many spaces.
 fn behind(spaces: usize, column: u32) -> u32
     requires spaces { spaces ≤ LINE_BYTES }
-    requires column { column ≤ LINE_BYTES + 3 }
+    requires column { column ≤ last_column }
     ensures { result ≡ spaces + column }
 {
     spaces as u32 + column

@@ -28,7 +28,7 @@ pub record SourceState : Type 0 where
 
 -- no read is to fail, and none has failed
 pub record SurelyGives (source : SourceState) : Type 0 where
-  pub told : source.plan.fail_at ≡ []
+  pub none_fails : source.plan.fail_at ≡ []
   pub counted : source.plan.faults ≡ 0
 
 -- the bytes taken, the most that fit, and which writes fail

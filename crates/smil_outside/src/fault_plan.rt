@@ -39,7 +39,7 @@ impl FaultPlan {
 
     /// Counts a call, and says whether it is one of those that fail.
     pub(crate) fn next_fails(&mut self) -> bool
-        ensures told { IsTrue result ↔ Contains self.old.fail_at (self.old.calls + 1) }
+        ensures fails { IsTrue result ↔ Contains self.old.fail_at (self.old.calls + 1) }
         ensures called { self.new ≡ called self.old }
     {
         let number = u128::from(self.calls) + 1;

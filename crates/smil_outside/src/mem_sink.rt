@@ -83,8 +83,8 @@ impl Sink for MemSink {
         ensures err { OnErr result (self.new
             ≡ record self.old { plan = faulted (called self.old.plan) }) }
     {
-        let is_told = self.plan.next_fails();
-        if is_told || piece.len() > self.buffer.len() - self.len {
+        let fails = self.plan.next_fails();
+        if fails || piece.len() > self.buffer.len() - self.len {
             self.plan.count_fault();
             return Err(Failed);
         }

@@ -1,7 +1,6 @@
 //! What the items of all elements wait for.
 
-ghost use Rattle.std.specs.Prelude.{◌≡◌, List, Some, IfOk, IsSome, nat_eq, slice_get};
-ghost use Rattle.std.specs.HashMap.{get};
+ghost use Rattle.std.specs.Prelude.{◌≡◌, List, Some, IfOk, IsSome, slice_get};
 ghost use Rattle.smil_model.specs.declared.document.Node.{Node as AnyNode};
 ghost use Rattle.smil_model.specs.document.Document.{elements, node_at, serials};
 ghost use Rattle.smil_instances.specs.Dependents.{AreDependentsOf};
@@ -76,18 +75,11 @@ impl Syncs {
         ensures { (nodes : List AnyNode) (e : AnyNode) → self.now ≡ all_syncs nodes
             → node_at (elements nodes) who ≡ Some e → result.now ≡ syncs_of nodes side e }
     {
-        match place_of(&self.places, who) {
+        match self.places.get(&who).copied() {
             Some(place) => side_at(&self.rows, place, side),
             None => &[],
         }
     }
-}
-
-// The place of a serial.
-fn place_of(places: &HashMap<u32, usize>, who: u32) -> Option<usize>
-    ensures { result ≡ get nat_eq places.now who }
-{
-    places.get(&who).copied()
 }
 
 // A side of the row at a place; it is empty where there is none.

@@ -11,20 +11,13 @@ use Rattle.smil_model.specs.document.Valid.{IsValid, kind_of}
 use Rattle.smil_model.specs.document.Values.{fit_kind, is_seq_parent}
 use Rattle.smil_grammar.specs.Nodes.{attribute_of, node_of}
 use Rattle.smil_laws.proofs.Members.{There, there}
-use Rattle.smil_attrs.proofs.Kept.{with_stays}
-use Rattle.smil_attrs.proofs.Noded.{attribute_is, node_is}
-use Rattle.smil_outline.proofs.Fitting.{fits}
-use Rattle.smil_outline.proofs.Ranging.{ranges}
+use Rattle.smil_attrs.proofs.Noded.{node_is}
+use Rattle.smil_outline.proofs.Ranging.{given_fits, ranges}
 use Rattle.smil_tree.specs.Outcomes.{may_bear, may_take, passes}
 use Rattle.smil_tree.proofs.Keeping.{fits_at}
 
 kind_there : (nodes : List Node) (s : ℕ) (n : Node) (kind : Kind) → node_at nodes s ≡ Some n → Some kind ≡ kind_of (node_at nodes s) → kind ≡ n.kind
 kind_there nodes s n kind at is = let found : Some kind ≡ Some n.kind = is ∙ ap kind_of at in cc
-
-given_fits : (k : Kind) (parent : Option Kind) (attrs : Attrs) (name value : List ℕ) (given : Attr) → fit_kind k parent attrs ≡ true → attribute_of (is_seq_parent parent) k name value ≡ Ok given → fit_kind k parent (with_attr attrs given) ≡ true
-given_fits k parent attrs name value given fit read =
-    let had = attribute_is (is_seq_parent parent) k name value given read in
-    ranges k parent (with_attr attrs given) (with_stays (is_seq_parent parent) k attrs given (fits k parent attrs fit) had.0 had.1)
 
 -- an attribute of a node that is read for its kind and its parent's
 pub may_take_read : (d : Document) (s : ℕ) (kind : Kind) (parent : Option Kind) (name value : List ℕ) (given : Attr) → IsValid d → IsSome (node_at d.nodes s) → Some kind ≡ kind_of (node_at d.nodes s) → ((n : Node) → node_at d.nodes s ≡ Some n → parent ≡ kind_of (node_at d.nodes n.parent)) → attribute_of (is_seq_parent parent) kind name value ≡ Ok given → may_take d.nodes s given ≡ true

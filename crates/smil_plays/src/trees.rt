@@ -41,14 +41,16 @@ fn put_tree(alloc: Global, out: &mut Bytes, tree: &Tree) -> Result<(), Fault> {
     Ok(())
 }
 
-// A node: its serial and its place; its parent, its class and its time parent, or `-`; its span;
-// its children behind `<` and its time children behind `>`; behind `:` the node that its id names,
-// or `-`, and of an element its restart and its fill. `/` ends it.
+// A node: its serial, its place, and its index among the elements with the serial there, or `-`;
+// its parent, its class and its time parent, or `-`; its span; its children behind `<` and its time
+// children behind `>`; behind `:` the node that its id names, or `-`, and of an element its restart
+// and its fill. `/` ends it.
 fn put_node(out: &mut Bytes, tree: &Tree, serial: u32) -> Result<(), AllocError>
     requires { IsSome (node_at tree.now.nodes serial) }
 {
     put_number(out, serial)?;
     put_maybe(out, tree.position(serial))?;
+    put_index(out, tree, serial)?;
     put_maybe(out, tree.parent(serial))?;
     put_maybe(out, tree.class_of(serial))?;
     put_maybe(out, tree.time_parent(serial))?;
@@ -63,6 +65,17 @@ fn put_node(out: &mut Bytes, tree: &Tree, serial: u32) -> Result<(), AllocError>
     put_named(out, tree, serial)?;
     put_defaults(out, tree, serial)?;
     put_word(out, "/")
+}
+
+// The index of a node among the elements and the serial of the element there, or `-` where it is
+// none.
+fn put_index(out: &mut Bytes, tree: &Tree, serial: u32) -> Result<(), AllocError> {
+    let index = tree.element_index(serial);
+    put_maybe(out, index)?;
+    match index {
+        Some(index) => put_maybe(out, tree.element_at(index)),
+        None => Ok(()),
+    }
 }
 
 // The time children of a node, the last of them again, and `-` for the one behind it.

@@ -5,6 +5,7 @@ use smil_diary::{Book, BookFault};
 use smil_model::{Bytes, Duplicate, Entry, Step, StepKind};
 use std::alloc::{AllocError, Global};
 
+// The kinds of steps, by the numbers that cases give them.
 const KINDS: [StepKind; 8] = [
     StepKind::Began,
     StepKind::Repeated,

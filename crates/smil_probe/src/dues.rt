@@ -17,7 +17,7 @@ fn key(word: &str) -> Result<Key, Fault> {
     })
 }
 
-// The serial of a key and whether it is a repeat, or `-` for none.
+// The value and the serial of a key, and whether it is a repeat, or `-` for none.
 fn put_key(out: &mut Bytes, key: Option<Key>) -> Result<(), AllocError> {
     match key {
         Some(key) => {

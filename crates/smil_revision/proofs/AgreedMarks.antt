@@ -1,7 +1,6 @@
 -- Marks of looped references, item by item.
 use Rattle.std.proofs.Common.{◌≡◌, refl, sym, ◌∙◌, ap, ℕ, suc, zero, ◌<◌, ◌+◌, List, [], ◌∷◌, ◌++◌, Option, Some, None, Bool, true, false, arith, length, take, append_assoc, add-one}
-use Rattle.std.specs.Prelude.{cond, map, option_map, pos, slice_get, slice_index_or, ◌&&◌, IsSome}
-use Rattle.std.specs.List.{list_all}
+use Rattle.std.specs.Prelude.{cond, map, option_map, pos, slice_get, IsSome}
 use Rattle.std.proofs.lemmas.List.{map-append}
 use Rattle.smil_model.specs.declared.document.Attrs.{Attrs}
 use Rattle.smil_model.specs.declared.document.Edge.{Edge}
@@ -127,20 +126,3 @@ both_sides ns s x y start one two counted none first second =
     ∙ (ap (λ (l : List Bool). l ++ map (is_looped ns e.serial) (items_of ns End e)) (first e counted.is ∙ ap (λ (l : List Bool). l ++ map (is_looped ns e.serial) (items_of ns Begin e)) none)
     ∙ (sym (map-append (is_looped ns e.serial) (items_of ns Begin e) (items_of ns End e))
     ∙ ap (loops ns) (sym counted.is)))
-
--- ---- elements that do not all pass
-
-pub one_fails : (p : Node → Bool) (ns : List Node) (k : ℕ) (n : Node) → k < length ns → n ≡ slice_index_or ns k n → is_element n ≡ true → p n ≡ false → list_all p (elements ns) ≡ false
-one_fails p [] k n l is element fails = absurd (omega (arith, l))
-one_fails p (x ∷ xs) zero n l is element fails =
-    ap (λ (t : Bool). list_all p (cond t (x ∷ elements xs) (elements xs))) (ap is_element (sym is) ∙ element)
-    ∙ ap (λ (t : Bool). t && list_all p (elements xs)) (ap p (sym is) ∙ fails)
-one_fails p (x ∷ xs) (suc k) n l is element fails = by_kind (is_element x) (one_fails p xs k n (omega (arith, l)) is element fails)
-  where
-    by_first : (t : Bool) → list_all p (elements xs) ≡ false → (t && list_all p (elements xs)) ≡ false
-    by_first true e = e
-    by_first false e = refl
-
-    by_kind : (t : Bool) → list_all p (elements xs) ≡ false → list_all p (cond t (x ∷ elements xs) (elements xs)) ≡ false
-    by_kind true e = by_first (p x) e
-    by_kind false e = e

@@ -16,6 +16,7 @@ use Rattle.smil_model.specs.document.Valid.{IsValid, kind_of, may_stand}
 use Rattle.smil_model.specs.document.Values.{fit_kind, is_seq_parent}
 use Rattle.smil_model.specs.happening.Queue.{parent_of}
 use Rattle.smil_model.specs.shown.Orders.{and_then, attr_set_by, attr_unset_by, found, insert_checked, may_insert, node_inserted_by, node_removed_from, set_checked}
+use Rattle.smil_model.specs.shown.Answers.{IsRefusedBy}
 use Rattle.smil_grammar.specs.declared.fault.AttrFault.{AttrFault}
 use Rattle.smil_grammar.specs.declared.fault.AttrFault.TheVariants as attr_fault
 use Rattle.smil_grammar.specs.declared.fault.NodeFault.{NodeFault}
@@ -26,18 +27,16 @@ use Rattle.smil_grammar.specs.Nodes.{kind_of as kind_of_line}
 use Rattle.smil_grammar.specs.Outlines.{in_line}
 use Rattle.smil_grammar.specs.Results.{◌>>=◌}
 use Rattle.smil_grammar.specs.Gives.{GivesReading}
-use Rattle.smil_attrs.proofs.Kept.{with_stays}
-use Rattle.smil_attrs.proofs.Noded.{attribute_is, node_is}
+use Rattle.smil_attrs.proofs.Noded.{node_is}
 use Rattle.smil_laws.proofs.Members.{There, there}
 use Rattle.smil_laws.proofs.Rounds.{find-serial}
-use Rattle.smil_outline.proofs.Fitting.{fits}
-use Rattle.smil_outline.proofs.Ranging.{ranges}
+use Rattle.smil_outline.proofs.Ranging.{given_fits, ranges}
 use Rattle.smil_tree.specs.declared.fault.TreeFault.{TreeFault}
 use Rattle.smil_tree.specs.Outcomes.{IsFaultOf, and_after, insert_outcome, may_bear, may_take, passes, place_outcome, remove_outcome, room_outcome, set_outcome}
 use Rattle.smil_tree.specs.Refusals.{of_tree}
 use Rattle.smil_tree.proofs.Keeping.{fits_at}
 use Rattle.smil_tree.proofs.ParentNodes.{parent_there}
-use Rattle.smil_revision.specs.Editing.{IsRefusedBy, at_node}
+use Rattle.smil_revision.specs.Editing.{at_node}
 use Rattle.smil_revision.specs.Refusing.{of_outcome}
 use Rattle.smil_revision.proofs.TreeFaults.{fault_refuses, place_is, remove_is, room_is, set_is}
 
@@ -61,7 +60,7 @@ outcome_refuses {A} whole r f e is same h = moved (fault_refuses r f h)
     moved (inl memory) = inl (same ∙ memory)
     moved (inr given) = inr (is ∙ given ∙ ap Err (sym same))
 
--- ---- an attribute that is read fits
+-- ---- an attribute that is read
 
 read_attribute : (w : WrittenAttr) (r : Result Attr AttrFault) (given : Attr) → in_line 0 (at_column w r) ≡ Ok given → r ≡ Ok given
 read_attribute w (Ok x) given h = cc
@@ -72,17 +71,15 @@ read_attribute w (Err (attr_fault.BadValue place)) given h = absurd cc
 read_attribute w (Err attr_fault.TooManyItems) given h = absurd cc
 read_attribute w (Err attr_fault.Memory) given h = absurd cc
 
-given_fits : (k : Kind) (parent : Option Kind) (attrs : Attrs) (name value : List ℕ) (name_column column : ℕ) (given : Attr) → fit_kind k parent attrs ≡ true → attr_in_line k parent name value name_column column ≡ Ok given → fit_kind k parent (with_attr attrs given) ≡ true
-given_fits k parent attrs name value name_column column given fit read =
-    let had = attribute_is (is_seq_parent parent) k name value given (read_attribute (written_at name value name_column column) (attribute_of (is_seq_parent parent) k name value) given read) in
-    ranges k parent (with_attr attrs given) (with_stays (is_seq_parent parent) k attrs given (fits k parent attrs fit) had.0 had.1)
-
 -- an attribute that was read at a node of a document
 module _ (d : Document) (s : ℕ) (some : IsSome (node_at d.nodes s)) (kind : Kind) (parent : Option Kind) (kinds : (n : Node) → node_at d.nodes s ≡ Some n → kind ≡ n.kind) (parents : (n : Node) → node_at d.nodes s ≡ Some n → parent ≡ kind_of (node_at d.nodes n.parent)) where
   n : There d.nodes s
   n = there d.nodes s some
 
-  read_there : (name value : List ℕ) (name_column column : ℕ) → attr_in_line kind parent name value name_column column ≡ attr_in_line n.node.kind (kind_of (node_at d.nodes n.node.parent)) name value name_column column
+  abbrev above : Option Kind
+  above = kind_of (node_at d.nodes n.node.parent)
+
+  read_there : (name value : List ℕ) (name_column column : ℕ) → attr_in_line kind parent name value name_column column ≡ attr_in_line n.node.kind above name value name_column column
   read_there name value nc c =
       ap (λ k. attr_in_line k parent name value nc c) (kinds n.node n.at)
       ∙ ap (λ p. attr_in_line n.node.kind p name value nc c) (parents n.node n.at)
@@ -91,7 +88,8 @@ module _ (d : Document) (s : ℕ) (some : IsSome (node_at d.nodes s)) (kind : Ki
   may_take_read edited name value nc c given valid same read =
       ap (λ (e : Document). may_take e.nodes s given) same
       ∙ ap (λ (o : Option Node). passes (λ (m : Node). fit_kind m.kind (kind_of (node_at d.nodes m.parent)) (with_attr m.attrs given)) o) n.at
-      ∙ given_fits n.node.kind (kind_of (node_at d.nodes n.node.parent)) n.node.attrs name value nc c given (fits_at d.nodes s n.node valid.fitting n.at) (sym (read_there name value nc c) ∙ read)
+      ∙ given_fits n.node.kind above n.node.attrs name value given (fits_at d.nodes s n.node valid.fitting n.at)
+      (read_attribute (written_at name value nc c) (attribute_of (is_seq_parent above) n.node.kind name value) given (sym (read_there name value nc c) ∙ read))
 
   at_value : (name value : List ℕ) (name_column column : ℕ) (r : Result Attr Refusal) → attr_in_line kind parent name value name_column column ≡ r → at_node d.nodes s (λ m. attr_set_by limits formats d m name value name_column column) ≡ and_then r (set_checked limits d n.node)
   at_value name value nc c r read =

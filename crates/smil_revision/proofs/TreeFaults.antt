@@ -12,11 +12,11 @@ use Rattle.smil_model.specs.document.Edits.{attr_set, node_inserted, node_remove
 use Rattle.smil_model.specs.document.Limits.{limits}
 use Rattle.smil_model.specs.document.Valid.{agree_with, depth_of, is_id_taken, kind_of, may_stand, references}
 use Rattle.smil_model.specs.shown.Orders.{and_then, id_in, insert_checked, is_place, may_insert, node_removed_from, set_checked, unless}
+use Rattle.smil_model.specs.shown.Answers.{IsRefusedBy}
 use Rattle.smil_tree.specs.declared.fault.TreeFault.{TreeFault}
 use Rattle.smil_tree.specs.declared.fault.TreeFault.TheVariants as fault
 use Rattle.smil_tree.specs.Outcomes.{IsFaultOf, is_root, place_outcome, remove_outcome, room_outcome, set_outcome}
 use Rattle.smil_tree.specs.Refusals.{of_tree}
-use Rattle.smil_revision.specs.Editing.{IsRefusedBy}
 use Rattle.smil_revision.specs.Refusing.{of_outcome}
 
 pub fault_refuses : {A : Type 0} (r : Result A TreeFault) (f : TreeFault) → IsFaultOf r f → IsRefusedBy (of_outcome r) (of_tree f)

@@ -1,14 +1,9 @@
--- Edits of a node by its serial, and what they are refused for.
-use Rattle.std.specs.Prelude.{◌≡◌, ◌⊎◌, ℕ, List, Result, Err}
+-- Edits of a node by its serial.
+use Rattle.std.specs.Prelude.{ℕ, List, Result}
 use Rattle.smil_model.specs.declared.document.Node.{Node}
 use Rattle.smil_model.specs.declared.order.Refusal.{Refusal}
-use Rattle.smil_model.specs.declared.order.Refusal.TheVariants as refusal
 use Rattle.smil_model.specs.document.Document.{node_at}
 use Rattle.smil_model.specs.shown.Orders.{and_then, found}
-
--- a refusal is that of the outcome, or memory ran out
-abbrev pub IsRefusedBy : {A : Type 0} → Result A Refusal → Refusal → Type 0
-IsRefusedBy outcome given = (given ≡ refusal.Memory) ⊎ (outcome ≡ Err given)
 
 -- goes on with the node of this serial
 abbrev pub at_node : {A : Type 0} → List Node → ℕ → (Node → Result A Refusal) → Result A Refusal

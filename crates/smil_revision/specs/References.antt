@@ -1,16 +1,16 @@
 -- Whether an edit leaves the references as they were: what the ids name, and which references are
 -- looped.
-use Rattle.std.specs.Prelude.{ℕ, List, [], ◌++◌, map, Bool, true, false, not, ◌&&◌, ◌||◌, ◌==◌, Option, Some, None, option_map, is_some}
+use Rattle.std.specs.Prelude.{ℕ, List, [], ◌++◌, map, Bool, true, false, not, ◌&&◌, ◌||◌, ◌==◌, Option, Some, None, is_some}
 use Rattle.std.specs.Bool.{beq}
 use Rattle.std.specs.Cmp.Lexicographic.{pointwise}
 use Rattle.std.specs.List.{list_all}
 use Rattle.smil_model.specs.declared.document.Node.{Node}
-use Rattle.smil_model.specs.document.Document.{elements, element_named, node_at}
+use Rattle.smil_model.specs.document.Document.{elements, element_named, node_at, serial_of}
 use Rattle.smil_model.specs.document.Dependencies.{all_items, is_looped}
 
 -- the serial of the element with this id
 abbrev pub serial_named : List Node → List ℕ → Option ℕ
-serial_named nodes id = option_map (λ (n : Node). n.serial) (element_named nodes id)
+serial_named nodes id = serial_of (element_named nodes id)
 
 -- whether two serials are the same, or both absent
 abbrev pub is_same_serial : Option ℕ → Option ℕ → Bool

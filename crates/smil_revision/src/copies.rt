@@ -5,10 +5,10 @@ ghost use Rattle.smil_model.specs.declared.document.Node.{Node as AnyNode};
 ghost use Rattle.smil_model.specs.document.Document.{node_at};
 ghost use Rattle.smil_model.specs.document.Limits.{limits};
 ghost use Rattle.smil_model.specs.document.Valid.{kind_of};
-ghost use Rattle.smil_model.specs.shown.Answers.{IsColumn, IsText};
+ghost use Rattle.smil_model.specs.shown.Answers.{IsColumn, IsRefusedBy, IsText};
 ghost use Rattle.smil_model.specs.shown.Orders.{attr_set_by, attr_unset_by, node_inserted_by, node_removed_from};
 ghost use Rattle.smil_grammar.specs.Formats.{formats};
-ghost use Rattle.smil_revision.specs.Editing.{IsRefusedBy, at_node};
+ghost use Rattle.smil_revision.specs.Editing.{at_node};
 
 use super::values::{
     AttrMention, Child, Kinds, LineText, Setting, read_line_attrs, read_line_kind, read_name,

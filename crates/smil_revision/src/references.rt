@@ -12,15 +12,14 @@ ghost use Rattle.smil_revision.specs.References.{is_same_serial, keeps_id, keeps
 
 use smil_graph::Graph;
 use smil_instances::{element_named, element_of};
-use smil_model::{Bytes, Edge, Items, Node, Who};
+use smil_model::{Bytes, Edge, Items, Who};
 use smil_tree::Tree;
 use std::alloc::{AllocError, Global};
 
-/// A document in place, with its nodes in order and its graph.
+/// A document in place, with its graph.
 #[derive(Clone, Copy)]
 pub struct GraphedDocument<'a> {
     pub tree: &'a Tree,
-    pub nodes: &'a [Node],
     pub graph: &'a Graph,
 }
 
@@ -45,27 +44,26 @@ struct ItemList<'a> {
 /// a node names the same element in both documents or none, and the items of each other element
 /// that both have are looped in both or in none.
 pub fn keeps_references(alloc: Global, revision: Revision<'_>) -> Result<bool, AllocError>
-    requires old_nodes { revision.old.nodes.now ≡ revision.old.tree.now.nodes }
-    requires new_nodes { revision.new.nodes.now ≡ revision.new.tree.now.nodes }
     requires old_graph { revision.old.graph.now.nodes ≡ revision.old.tree.now.nodes }
     requires new_graph { revision.new.graph.now.nodes ≡ revision.new.tree.now.nodes }
     ensures { IfOk result (λ keeps. keeps ≡ keeps_references revision.entry.edited
         revision.entry.old.tree.now.nodes revision.entry.new.tree.now.nodes) }
 {
-    let old = revision.old;
-    let new = revision.new;
-    if !keeps_ids(old.nodes, old.tree, new.tree)? || !keeps_ids(new.nodes, old.tree, new.tree)? {
+    let old = revision.old.tree;
+    let new = revision.new.tree;
+    if !keeps_ids(old, old, new)? || !keeps_ids(new, old, new)? {
         return Ok(false);
     }
     keeps_loops(alloc, revision)
 }
 
-// Whether the id of each of these nodes names the same element in both documents, or none.
-fn keeps_ids(nodes: &[Node], old: &Tree, new: &Tree) -> Result<bool, AllocError>
+// Whether the id of each node of a document names the same element in both documents, or none.
+fn keeps_ids(tree: &Tree, old: &Tree, new: &Tree) -> Result<bool, AllocError>
     ensures { IfOk result (λ keeps. keeps
-        ≡ list_all (λ (n : AnyNode). keeps_id old.now.nodes new.now.nodes n.attrs.id) nodes.now) }
+        ≡ list_all (λ (n : AnyNode). keeps_id old.now.nodes new.now.nodes n.attrs.id)
+        tree.now.nodes) }
 {
-    for node in nodes {
+    for node in tree.nodes() {
         if !keeps_id(old, new, &node.attrs.id)? {
             return Ok(false);
         }
@@ -98,13 +96,12 @@ fn is_same_serial(one: Option<u32>, other: Option<u32>) -> bool
 
 // Whether the items of each other element that both documents have are looped in both or in none.
 fn keeps_loops(alloc: Global, revision: Revision<'_>) -> Result<bool, AllocError>
-    requires old_nodes { revision.old.nodes.now ≡ revision.old.tree.now.nodes }
     requires old_graph { revision.old.graph.now.nodes ≡ revision.old.tree.now.nodes }
     requires new_graph { revision.new.graph.now.nodes ≡ revision.new.tree.now.nodes }
     ensures { IfOk result (λ keeps. keeps ≡ keeps_loops revision.entry.edited
         revision.entry.old.tree.now.nodes revision.entry.new.tree.now.nodes) }
 {
-    for node in revision.old.nodes {
+    for node in revision.old.tree.nodes() {
         if node.kind.is_element() && !keeps_loops_of(alloc, revision, node.serial)? {
             return Ok(false);
         }

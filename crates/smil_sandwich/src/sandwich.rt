@@ -11,8 +11,8 @@ use std::alloc::{AllocError, Global};
 use std::marker::Model;
 
 /// The layers of the sets that contribute, seen as the list of them from the top down, each with
-/// its set. SMIL Animation's sandwich model: the greater begin stands above, and of equal ones the
-/// later in the document.
+/// its set. The greater begin stands above, and of equal ones the later in the
+/// document. SMIL 3.0, "The animation sandwich model".
 #[derive(Drop)]
 pub struct Sandwich {
     layers: Vec<(u32, Layer)>,

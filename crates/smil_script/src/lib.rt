@@ -3,8 +3,8 @@
 
 mod lines;
 mod orders;
+mod piece;
 mod verbs;
-mod word;
 mod words;
 
 pub use lines::{ends_load, is_blank, opens_load, read_line};

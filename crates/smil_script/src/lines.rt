@@ -12,8 +12,8 @@ ghost use Rattle.smil_script.specs.Gives.{HoldsGiven, with_name};
 ghost use Rattle.smil_script.specs.Loads.{ends_load as ends_load_line};
 
 use super::orders::order;
-use super::word::Word;
-use super::words::{is_title, own};
+use super::piece::Piece;
+use super::words::{is_presentation_name, own};
 use smil_grammar::Read;
 use smil_lexis::runs;
 use smil_lexis::texts::is;
@@ -36,19 +36,19 @@ fn is_all_white(line: &[u8]) -> bool
 }
 
 // The presentation's name that is the rest of a line.
-fn title(alloc: Global, line: &Word<'_>) -> Result<Bytes, Refusal>
+fn presentation_name(alloc: Global, line: &Piece<'_>) -> Result<Bytes, Refusal>
     ensures load { GivesReading (with_name Load result) (or_refused (named Load line.now)) }
     ensures close { GivesReading (with_name Close result) (or_refused (named Close line.now)) }
 {
     let (word, rest) = line.first();
-    if !is_title(word.text) || !rest.is_ended() {
+    if !is_presentation_name(word.text) || !rest.is_ended() {
         return Err(Refusal::NotACommand);
     }
     own(alloc, word.text)
 }
 
 // The order to a presentation, behind its name.
-fn to(alloc: Global, name: &[u8], line: &Word<'_>) -> Result<Read, Refusal>
+fn to(alloc: Global, name: &[u8], line: &Piece<'_>) -> Result<Read, Refusal>
     ensures reading { GivesReading result
         (let verb : Piece × Piece = first_of line.now in to_name name.now
         (finish (order_line verb.0.text verb.1))) }
@@ -61,18 +61,18 @@ fn to(alloc: Global, name: &[u8], line: &Word<'_>) -> Result<Read, Refusal>
 }
 
 // A line that isn't blank, by its first word.
-fn command(alloc: Global, line: &Word<'_>) -> Result<Read, Refusal>
+fn command(alloc: Global, line: &Piece<'_>) -> Result<Read, Refusal>
     ensures reading { GivesReading result (command_line (first_of line.now)) }
     ensures given { IfOk result HoldsGiven }
 {
     let (word, rest) = line.first();
     if is(word.text, b"load") {
-        let name = title(alloc, &rest)?;
+        let name = presentation_name(alloc, &rest)?;
         Ok(Read::Load { name })
     } else if is(word.text, b"close") {
-        let name = title(alloc, &rest)?;
+        let name = presentation_name(alloc, &rest)?;
         Ok(Read::Close { name })
-    } else if is_title(word.text) {
+    } else if is_presentation_name(word.text) {
         to(alloc, word.text, &rest)
     } else {
         Err(Refusal::NotACommand)
@@ -94,7 +94,7 @@ pub fn read_line(alloc: Global, line: &[u8]) -> Result<Read, Refusal>
     if is_blank(line) {
         return Ok(Read::Blank);
     }
-    let whole = Word {
+    let whole = Piece {
         text: line,
         place: 0,
     };
@@ -116,7 +116,7 @@ pub fn ends_load(line: &[u8]) -> bool
     requires { IsText line.now }
     ensures { result ≡ ends_load_line line.now }
 {
-    let line = Word {
+    let line = Piece {
         text: line,
         place: 0,
     };

@@ -5,14 +5,14 @@ ghost use Rattle.smil_grammar.specs.Scripts.{order_line, finish};
 ghost use Rattle.smil_grammar.specs.Gives.{GivesReading};
 ghost use Rattle.smil_model.specs.shown.Answers.{IsGiven};
 
+use super::piece::Piece;
 use super::verbs;
-use super::word::Word;
 use smil_lexis::texts::is;
 use smil_model::{Order, Refusal};
 use std::alloc::Global;
 
 /// The order of a verb and what stands behind it.
-pub fn order(alloc: Global, verb: &[u8], line: &Word<'_>) -> Result<Order, Refusal>
+pub fn order(alloc: Global, verb: &[u8], line: &Piece<'_>) -> Result<Order, Refusal>
     ensures reading { GivesReading result (finish (order_line verb.now line.now)) }
     ensures given { IfOk result IsGiven }
 {

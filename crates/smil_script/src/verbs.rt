@@ -10,7 +10,7 @@ ghost use Rattle.smil_model.specs.document.Values.{is_clock};
 ghost use Rattle.smil_model.specs.shown.Answers.{IsGiven, IsName};
 ghost use Rattle.smil_script.specs.Gives.{GivesWho, with_value};
 
-use super::word::Word;
+use super::piece::Piece;
 use super::words;
 use smil_clock_value::clock_within;
 use smil_lexis::numbers::short_number;
@@ -28,7 +28,7 @@ fn column(place: usize) -> u32
 }
 
 /// An order at the end of its line.
-pub fn ended(line: &Word<'_>, order: Order) -> Result<Order, Refusal>
+pub fn ended(line: &Piece<'_>, order: Order) -> Result<Order, Refusal>
     ensures reading { result ≡ finish (at_end line.now (given_reading order)) }
     ensures same { IfOk result (λ given. given ≡ order) }
 {
@@ -41,7 +41,7 @@ pub fn ended(line: &Word<'_>, order: Order) -> Result<Order, Refusal>
 
 // The clock value that is the rest of a line. It is looked at after all else: `BadValue` only where
 // the line ends behind it.
-fn clock(line: &Word<'_>) -> Result<i64, Refusal>
+fn clock(line: &Piece<'_>) -> Result<i64, Refusal>
     ensures reading { (made : ℤ → OrderValue)
         → finish (with_clock made line.now) ≡ with_value made result }
     ensures clock { IfOk result (λ value. is_clock value ≡ true) }
@@ -59,7 +59,7 @@ fn clock(line: &Word<'_>) -> Result<i64, Refusal>
 }
 
 // The element that the first word names, and what stands behind it.
-fn named<'a>(alloc: Global, line: &Word<'a>) -> Result<(Who, Word<'a>), Refusal>
+fn named<'a>(alloc: Global, line: &Piece<'a>) -> Result<(Who, Piece<'a>), Refusal>
     ensures reading { GivesWho result line.now }
     ensures name { IfOk result (λ named. IsName named.0) }
 {
@@ -69,7 +69,7 @@ fn named<'a>(alloc: Global, line: &Word<'a>) -> Result<(Who, Word<'a>), Refusal>
 }
 
 /// `advance`: a length.
-pub fn advance(line: &Word<'_>) -> Result<Order, Refusal>
+pub fn advance(line: &Piece<'_>) -> Result<Order, Refusal>
     ensures reading { GivesReading result (finish (with_clock order_value.Advance line.now)) }
     ensures given { IfOk result IsGiven }
 {
@@ -78,7 +78,7 @@ pub fn advance(line: &Word<'_>) -> Result<Order, Refusal>
 }
 
 /// `seek`: a moment.
-pub fn seek(line: &Word<'_>) -> Result<Order, Refusal>
+pub fn seek(line: &Piece<'_>) -> Result<Order, Refusal>
     ensures reading { GivesReading result (finish (with_clock order_value.Seek line.now)) }
     ensures given { IfOk result IsGiven }
 {
@@ -87,7 +87,7 @@ pub fn seek(line: &Word<'_>) -> Result<Order, Refusal>
 }
 
 // The event's name, behind its element.
-fn event_of(alloc: Global, who: Who, line: &Word<'_>) -> Result<Order, Refusal>
+fn event_of(alloc: Global, who: Who, line: &Piece<'_>) -> Result<Order, Refusal>
     requires { IsName who }
     ensures reading { GivesReading result (finish (event_line who line.now)) }
     ensures given { IfOk result IsGiven }
@@ -98,7 +98,7 @@ fn event_of(alloc: Global, who: Who, line: &Word<'_>) -> Result<Order, Refusal>
 }
 
 /// `event`: an element and the event's name.
-pub fn event(alloc: Global, line: &Word<'_>) -> Result<Order, Refusal>
+pub fn event(alloc: Global, line: &Piece<'_>) -> Result<Order, Refusal>
     ensures reading { GivesReading result (finish (with_who event_line line.now)) }
     ensures given { IfOk result IsGiven }
 {
@@ -107,7 +107,7 @@ pub fn event(alloc: Global, line: &Word<'_>) -> Result<Order, Refusal>
 }
 
 /// `media`: an element and a length.
-pub fn media(alloc: Global, line: &Word<'_>) -> Result<Order, Refusal>
+pub fn media(alloc: Global, line: &Piece<'_>) -> Result<Order, Refusal>
     ensures reading { GivesReading result
         (finish (with_who (λ who. with_clock (order_value.Media who)) line.now)) }
     ensures given { IfOk result IsGiven }
@@ -118,7 +118,7 @@ pub fn media(alloc: Global, line: &Word<'_>) -> Result<Order, Refusal>
 }
 
 // A value between quotes with nothing but spaces behind it.
-fn quoted<'a>(line: &Word<'a>) -> Option<Word<'a>>
+fn quoted<'a>(line: &Piece<'a>) -> Option<Piece<'a>>
     ensures value { option_map (λ value. (value.text, value)) result ≡ quoted_of line.now }
     ensures within { IfSome result (λ value. value.place + length value.text + 1 < TEXT_BYTES) }
 {
@@ -128,14 +128,14 @@ fn quoted<'a>(line: &Word<'a>) -> Option<Word<'a>>
     if line.place == from.place || !runs::is_spaces(rest) {
         return None;
     }
-    Some(Word {
+    Some(Piece {
         text: value,
         place: from.place + 1,
     })
 }
 
 /// `set`: an element, an attribute's name and its value between quotes.
-pub fn set(alloc: Global, line: &Word<'_>) -> Result<Order, Refusal>
+pub fn set(alloc: Global, line: &Piece<'_>) -> Result<Order, Refusal>
     ensures reading { GivesReading result (finish (with_who set_line line.now)) }
     ensures given { IfOk result IsGiven }
 {
@@ -153,7 +153,7 @@ pub fn set(alloc: Global, line: &Word<'_>) -> Result<Order, Refusal>
 }
 
 /// `unset`: an element and an attribute's name.
-pub fn unset(alloc: Global, line: &Word<'_>) -> Result<Order, Refusal>
+pub fn unset(alloc: Global, line: &Piece<'_>) -> Result<Order, Refusal>
     ensures reading { GivesReading result (finish (with_who unset_line line.now)) }
     ensures given { IfOk result IsGiven }
 {
@@ -171,7 +171,7 @@ pub fn unset(alloc: Global, line: &Word<'_>) -> Result<Order, Refusal>
 }
 
 /// `insert`: an element, a place and a node line to the end of the line.
-pub fn insert(alloc: Global, line: &Word<'_>) -> Result<Order, Refusal>
+pub fn insert(alloc: Global, line: &Piece<'_>) -> Result<Order, Refusal>
     ensures reading { GivesReading result (finish (with_who insert_line line.now)) }
     ensures given { IfOk result IsGiven }
 {
@@ -191,7 +191,7 @@ pub fn insert(alloc: Global, line: &Word<'_>) -> Result<Order, Refusal>
 }
 
 /// `key`: one byte, which is an access key.
-pub fn key(line: &Word<'_>) -> Result<Order, Refusal>
+pub fn key(line: &Piece<'_>) -> Result<Order, Refusal>
     ensures reading { result ≡ finish (key_line line.now) }
     ensures given { IfOk result IsGiven }
 {
@@ -203,7 +203,7 @@ pub fn key(line: &Word<'_>) -> Result<Order, Refusal>
 }
 
 /// `stack`: an element and an attribute's name.
-pub fn stack(alloc: Global, line: &Word<'_>) -> Result<Order, Refusal>
+pub fn stack(alloc: Global, line: &Piece<'_>) -> Result<Order, Refusal>
     ensures reading { GivesReading result (finish (with_who stack_line line.now)) }
     ensures given { IfOk result IsGiven }
 {
@@ -214,7 +214,7 @@ pub fn stack(alloc: Global, line: &Word<'_>) -> Result<Order, Refusal>
 }
 
 /// `remove`: an element.
-pub fn remove(alloc: Global, line: &Word<'_>) -> Result<Order, Refusal>
+pub fn remove(alloc: Global, line: &Piece<'_>) -> Result<Order, Refusal>
     ensures reading { GivesReading result
         (finish (with_who (λ who rest. at_end rest (given_reading (order_value.Remove who)))
         line.now)) }
@@ -225,7 +225,7 @@ pub fn remove(alloc: Global, line: &Word<'_>) -> Result<Order, Refusal>
 }
 
 /// `history`: an element.
-pub fn history(alloc: Global, line: &Word<'_>) -> Result<Order, Refusal>
+pub fn history(alloc: Global, line: &Piece<'_>) -> Result<Order, Refusal>
     ensures reading { GivesReading result
         (finish (with_who (λ who rest. at_end rest (given_reading (order_value.History who)))
         line.now)) }

@@ -5,7 +5,7 @@ ghost use Rattle.std.specs.List.{prefix_len, list_any};
 ghost use Rattle.std.specs.Option.{ok_or};
 ghost use Rattle.smil_grammar.specs.Texts.{quote};
 ghost use Rattle.smil_grammar.specs.Values.{id_of};
-ghost use Rattle.smil_grammar.specs.Scripts.{is_title as is_title_text, who_of, event_of, attribute_of};
+ghost use Rattle.smil_grammar.specs.Scripts.{is_presentation_name as is_name_word, who_of, event_of, attribute_word_of};
 ghost use Rattle.smil_grammar.specs.Gives.{GivesReading};
 ghost use Rattle.smil_model.specs.declared.order.Refusal.TheVariants.{NotACommand, Memory};
 ghost use Rattle.smil_model.specs.document.Words.{is_event_name as is_event_word, is_raised_name, is_of_attribute};
@@ -20,7 +20,7 @@ use smil_time_list::offsets::count;
 use std::alloc::Global;
 
 // How many bytes at the front go on a presentation's name.
-fn title_len(text: &[u8]) -> usize
+fn name_bytes(text: &[u8]) -> usize
     ensures len { result ≡ prefix_len is_of_attribute text.now }
     ensures within { result ≤ length text.now }
 {
@@ -31,12 +31,12 @@ fn title_len(text: &[u8]) -> usize
 
 /// Whether a word is a presentation's name: a letter, then letters, digits, `_` and `-`, of at most
 /// 32 bytes, and neither `load` nor `close`.
-pub fn is_title(text: &[u8]) -> bool
-    ensures { result ≡ is_title_text text.now }
+pub fn is_presentation_name(text: &[u8]) -> bool
+    ensures { result ≡ is_name_word text.now }
 {
     match text {
         [b'A'..=b'Z' | b'a'..=b'z', rest @ ..] => {
-            title_len(rest) == rest.len()
+            name_bytes(rest) == rest.len()
                 && rest.len() < NAME_BYTES
                 && !is(text, b"load")
                 && !is(text, b"close")
@@ -120,7 +120,7 @@ fn has_quote(text: &[u8]) -> bool
 
 /// An attribute's name: any word of UTF-8 without a quote.
 pub fn attribute(alloc: Global, text: &[u8]) -> Result<Bytes, Refusal>
-    ensures reading { GivesReading result (ok_or (attribute_of text.now) NotACommand) }
+    ensures reading { GivesReading result (ok_or (attribute_word_of text.now) NotACommand) }
     ensures same { IfOk result (λ name. name ≡ text.now) }
     ensures some { IfOk result (λ name. 0 < length text.now) }
 {

@@ -60,7 +60,7 @@ impl Pieces {
     }
 }
 
-// Numbers, with a comma between two.
+// Numbers, one at least, with a comma between two: no word of a header is a space.
 fn numbers(alloc: Global, word: &str) -> Result<Vec<u32>, Fault> {
-    Words::of_word(word).values(alloc, "", number::<u32>)
+    Words::of_word(word).values(alloc, " ", number::<u32>)
 }

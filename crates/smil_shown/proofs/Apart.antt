@@ -12,14 +12,14 @@ use Rattle.smil_model.specs.declared.view.View.{View}
 use Rattle.smil_model.specs.document.Document.{elements, is_element, is_set_kind, node_at, serials}
 use Rattle.smil_model.specs.document.Edits.{place_in}
 use Rattle.smil_model.specs.document.Valid.{IsDistinct}
-use Rattle.smil_model.specs.shown.Sandwich.{begin_shown, contributes, layer_by, layer_of, layers, target_by, with_setter}
+use Rattle.smil_model.specs.shown.Sandwich.{begin_shown, contributes, layer_by, layer_in, layer_of, layers, target_by, with_setter}
 use Rattle.smil_laws.proofs.Lineages.{swap_eqb}
 use Rattle.smil_laws.proofs.Members.{Differ, differ_all, differ_kept}
 use Rattle.smil_laws.proofs.Lists.{each_weaker, each_kept}
 use Rattle.smil_tree.proofs.KinLists.{each_left, each_serial}
 use Rattle.smil_tree.proofs.Changed.{serial_of as own_serial, some_node}
 use Rattle.smil_sandwich.specs.Stacks.{AreApart, IsApart}
-use Rattle.smil_shown.specs.Sets.{AreOfElements, AreSettersOf, layer_in}
+use Rattle.smil_shown.specs.Sets.{AreOfElements, AreSettersOf}
 
 -- what is found stands at a place
 pub found_below : {X : Type 0} (test : X → Bool) (xs : List X) → IsSome (find test xs) → position_or_len test xs < length xs

@@ -1,27 +1,27 @@
 -- Lines that are told one after another.
-use Rattle.std.proofs.Common.{◌≡◌, refl, sym, ◌∙◌, ap, ℕ, zero, suc, ◌+◌, ◌<◌, ◌≤◌, List, [], ◌∷◌, ◌++◌, Option, Some, None, Bool, true, false, length, drop, get_or, arith, append-nil}
+use Rattle.std.proofs.Common.{◌≡◌, refl, sym, ◌∙◌, ap, ℕ, zero, suc, ◌+◌, ◌<◌, List, [], ◌∷◌, ◌++◌, Option, Some, None, Bool, true, false, length, drop, get_or, arith, append-nil}
 use Rattle.std.specs.Prelude.{cond, not, ◌==◌, ℤ, IsSome, is_some, filter, flat_map, nat_lt, slice_get, option_map}
 use Rattle.std.specs.Option.{option_map_or}
 use Rattle.std.specs.List.{position, position_or_len}
 use Rattle.std.proofs.Math.Seq.{drop-cons}
 use Rattle.std.proofs.lemmas.Bool.{eqb-true, ltb-true, ltb-false}
 use Rattle.std.proofs.lemmas.Option.{same_Some, slice_get_past}
+use Rattle.std.proofs.lemmas.Grind.{flat_map-append}
 use Rattle.std.proofs.lemmas.List.{append_assoc}
+use Rattle.std.proofs.lemmas.List.Elements.{filter-append}
 use Rattle.std.proofs.lemmas.List.Folds.{find_at}
-use Rattle.std.proofs.Math.ListN.{drop_of_length-le}
 use Rattle.smil_model.specs.declared.document.Attrs.{Attrs}
 use Rattle.smil_model.specs.declared.document.Kind.{Kind}
 use Rattle.smil_model.specs.declared.document.Node.{Node}
 use Rattle.smil_model.specs.declared.order.Who.TheVariants.{Serial}
 use Rattle.smil_model.specs.declared.view.View.{View}
-use Rattle.smil_model.specs.document.Document.{elements, is_class_kind, node_at}
+use Rattle.smil_model.specs.document.Document.{elements, is_class_kind, is_element, node_at}
 use Rattle.smil_model.specs.document.Valid.{kind_of}
 use Rattle.smil_model.specs.shown.Answers.{change_text, name_in}
 use Rattle.smil_model.specs.shown.Lines.{gone_line, name_by, name_of}
-use Rattle.smil_model.specs.shown.Orders.{changed, view_before, view_eq}
+use Rattle.smil_model.specs.shown.Orders.{changed, gone_from, view_before, view_eq}
 use Rattle.smil_laws.proofs.Aside.{find_true}
-use Rattle.smil_tree.proofs.Families.{drop_at}
-use Rattle.smil_shown.specs.Told.{gone_from, lines_between, lines_gone, lines_of}
+use Rattle.smil_shown.specs.Told.{lines_between, lines_gone, lines_of}
 
 -- the name of a node that is there
 pub name_there : (nodes : List Node) (s : ℕ) (attrs : Attrs) → IsSome (node_at nodes s) → Some attrs ≡ option_map (λ (n : Node). n.attrs) (node_at nodes s) → name_in nodes s ≡ name_by s attrs.id
@@ -66,18 +66,25 @@ difference_on nodes m before views i d all old new l so_far made =
 
 -- ---- nodes that are gone
 
-gone_next : (after : List Node) (moment : ℤ) (n : Node) (ns : List Node) → lines_gone after moment (n ∷ ns) ≡ lines_gone after moment (n ∷ []) ++ lines_gone after moment ns
-gone_next after moment n ns = by_element (not (is_class_kind n.kind))
+-- one node more is told
+pub gone_more : (after : List Node) (moment : ℤ) (past : List Node) (n : Node) (start out new : List ℕ) → out ≡ start ++ lines_gone after moment past
+    → new ≡ out ++ lines_gone after moment (n ∷ []) → new ≡ start ++ lines_gone after moment (past ++ n ∷ [])
+gone_more after moment past n start out new so_far made =
+    made ∙ ap (λ l. l ++ lines_gone after moment (n ∷ [])) so_far
+    ∙ append_assoc start (lines_gone after moment past) (lines_gone after moment (n ∷ []))
+    ∙ ap (λ l. start ++ l) (sym both)
   where
-    by_gone : (g : Bool) → flat_map (λ (m : Node). gone_line moment (name_of m)) (cond g (n ∷ gone_from after ns) (gone_from after ns))
-        ≡ flat_map (λ (m : Node). gone_line moment (name_of m)) (cond g (n ∷ []) []) ++ lines_gone after moment ns
-    by_gone true = ap (λ l. l ++ lines_gone after moment ns) (sym (append-nil (gone_line moment (name_of n))))
-    by_gone false = refl
+    line : Node → List ℕ
+    line m = gone_line moment (name_of m)
 
-    by_element : (t : Bool) → flat_map (λ (m : Node). gone_line moment (name_of m)) (filter (λ (m : Node). not (is_some (node_at after m.serial))) (cond t (n ∷ elements ns) (elements ns)))
-        ≡ flat_map (λ (m : Node). gone_line moment (name_of m)) (filter (λ (m : Node). not (is_some (node_at after m.serial))) (cond t (n ∷ []) [])) ++ lines_gone after moment ns
-    by_element true = by_gone (not (is_some (node_at after n.serial)))
-    by_element false = refl
+    is_gone : Node → Bool
+    is_gone m = not (is_some (node_at after m.serial))
+
+    both : lines_gone after moment (past ++ n ∷ []) ≡ lines_gone after moment past ++ lines_gone after moment (n ∷ [])
+    both =
+        ap (λ (ns : List Node). flat_map line (filter is_gone ns)) (filter-append is_element past (n ∷ []))
+        ∙ ap (flat_map line) (filter-append is_gone (elements past) (elements (n ∷ [])))
+        ∙ flat_map-append line (gone_from after past) (gone_from after (n ∷ []))
 
 is_there : (ns : List Node) (s : ℕ) → is_some (position (λ (n : Node). n.serial == s) ns) ≡ is_some (node_at ns s)
 is_there ns s =
@@ -123,18 +130,3 @@ still_there before after moment s n at there = by_element (not (is_class_kind n.
     by_element : (t : Bool) → flat_map (λ (m : Node). gone_line moment (name_of m)) (filter (λ (m : Node). not (is_some (node_at after m.serial))) (cond t (n ∷ []) [])) ≡ []
     by_element true = ap (λ (t : Bool). flat_map (λ (m : Node). gone_line moment (name_of m)) (cond (not t) (n ∷ []) [])) here
     by_element false = refl
-
-pub gone_on : (after : List Node) (moment : ℤ) (nodes : List Node) (i : ℕ) (n : Node) (all old new : List ℕ) → slice_get nodes i ≡ Some n
-    → old ++ lines_gone after moment (drop i nodes) ≡ all
-    → new ≡ old ++ lines_gone after moment (n ∷ [])
-    → new ++ lines_gone after moment (drop (i + 1) nodes) ≡ all
-gone_on after moment nodes i n all old new at so_far made =
-    one_told all old new (lines_gone after moment (n ∷ [])) (lines_gone after moment (drop (i + 1) nodes)) (lines_gone after moment (drop i nodes)) made so_far
-    (ap (lines_gone after moment) (drop_at nodes i n at) ∙ gone_next after moment n (drop (i + 1) nodes))
-
-pub all_gone : (after : List Node) (moment other : ℤ) (nodes : List Node) (i : ℕ) (out now : List ℕ) → other ≡ moment → length nodes ≤ i
-    → now ++ lines_gone after other (drop i nodes) ≡ out ++ lines_gone after other nodes → now ≡ out ++ lines_gone after moment nodes
-all_gone after moment other nodes i out now same left told =
-    sym (append-nil now)
-    ∙ (ap (λ (ns : List Node). now ++ lines_gone after other ns) (sym (drop_of_length-le nodes left))
-    ∙ (told ∙ ap (λ (z : ℤ). out ++ lines_gone after z nodes) same))

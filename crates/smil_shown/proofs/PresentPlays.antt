@@ -16,9 +16,10 @@ use Rattle.smil_model.specs.diary.Plays.{PlayEdge}
 use Rattle.smil_model.specs.shown.Histories.{all_plays, intervals_of, told_finished, told_present}
 use Rattle.smil_model.specs.shown.Views.{document_value, shown_time, view_facts}
 use Rattle.smil_model.specs.Times.{IsMoment, IsNear}
+use Rattle.smil_model.specs.shown.Answers.{told_line}
 use Rattle.smil_stretch.specs.Clocks.{AreClocksOf, IsHistoryOf}
 use Rattle.smil_shown.specs.declared.interval_teller.IntervalTeller.{IntervalTeller}
-use Rattle.smil_shown.specs.Histories.{IsTold, end_at, finished_text, present_line, told_begin, told_line}
+use Rattle.smil_shown.specs.Histories.{IsTold, end_at, finished_text, present_line, told_begin}
 
 -- ---- the text of all intervals
 

@@ -12,12 +12,13 @@ use Rattle.smil_model.specs.declared.view.Layer.{Layer}
 use Rattle.smil_model.specs.declared.view.View.{View}
 use Rattle.smil_model.specs.document.Document.{elements, node_at}
 use Rattle.smil_model.specs.document.Valid.{IsDistinct}
-use Rattle.smil_model.specs.shown.Sandwich.{is_above, layers, layers_on, names_on, put_layer, put_name, stack_of}
+use Rattle.smil_model.specs.shown.Sandwich.{is_above, layer_in, layers, layers_on, names_on, put_layer, put_name, stack_of}
+use Rattle.smil_model.specs.ListTables.{list_in, list_of, rows}
 use Rattle.smil_sandwich.specs.Stacks.{AreApart, all_applied, applied}
 use Rattle.smil_sandwich.proofs.Sorted.{all_put}
 use Rattle.smil_cells.proofs.Taking.{elements_few}
 use Rattle.smil_shown.proofs.Apart.{Different, elements_different, front_different, layers_apart, layers_known}
-use Rattle.smil_shown.specs.Sets.{AreOfElements, AreSetsAmong, AreSetsOf, AreSettersOf, LayerTable, and_layer, layer_in, names_in, names_of, rows_in}
+use Rattle.smil_shown.specs.Sets.{AreOfElements, AreSetsAmong, AreSetsOf, AreSettersOf, LayerTable, and_layer}
 use Rattle.smil_laws.proofs.Lists.{each_kept, filter_shorter}
 
 abbrev Row : Type 0
@@ -41,19 +42,19 @@ names_push all l t = ap (λ ls. fold put_name [] (map attr ls)) (filter-append o
     by false e = ap (λ ls. fold put_name [] (map attr ls)) (append-nil (filter on all))
 
 -- what a table has of a target, by its rows
-pub rows_are : {Z : Type 0} (table : List (ℕ × Vec (List ℕ) Z)) (t : ℕ) → names_of (rows_in table) t ≡ names_in table t
+pub rows_are : {Z : Type 0} (table : List (ℕ × Vec (List ℕ) Z)) (t : ℕ) → list_in (rows table) t ≡ list_of table t
 rows_are {Z} table t = ap (λ (o : Option (List (List ℕ))). unwrap_or o []) (lookup-map_values (λ (v : Vec (List ℕ) Z). v.items) (nat_eq t) table)
 
 -- one more name is noted
 pub rows_noted : {Z : Type 0} (before after : List (ℕ × Vec (List ℕ) Z)) (target : ℕ) (name : List ℕ)
-    → ((t : ℕ) → names_in after t ≡ (if target == t then put_name (names_in before t) name else names_in before t))
-    → (t : ℕ) → names_of (rows_in after) t ≡ (if target == t then put_name (names_of (rows_in before) t) name else names_of (rows_in before) t)
+    → ((t : ℕ) → list_of after t ≡ (if target == t then put_name (list_of before t) name else list_of before t))
+    → (t : ℕ) → list_in (rows after) t ≡ (if target == t then put_name (list_in (rows before) t) name else list_in (rows before) t)
 rows_noted before after target name noted t =
     rows_are after t ∙ noted t ∙ ap (λ (ns : List (List ℕ)). if target == t then put_name ns name else ns) (sym (rows_are before t))
 
 -- one more layer is taken in
 pub taken : (sets new : LayerTable) (before : List Row) (l : Row) → AreSetsOf sets before → AreApart (before ++ l ∷ []) → new.layers ≡ applied l.0 (Some l.1) sets.layers
-    → ((t : ℕ) → names_of new.names t ≡ (if (l.1).target == t then put_name (names_of sets.names t) (l.1).attr else names_of sets.names t))
+    → ((t : ℕ) → list_in new.names t ≡ (if (l.1).target == t then put_name (list_in sets.names t) (l.1).attr else list_in sets.names t))
     → AreSetsOf new (before ++ l ∷ [])
 taken sets new before l had apart kept names = record {
   apart = apart;

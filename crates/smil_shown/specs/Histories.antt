@@ -14,16 +14,13 @@ use Rattle.smil_model.specs.diary.Clocks.{to_document}
 use Rattle.smil_model.specs.diary.Diary.{History, up_to}
 use Rattle.smil_model.specs.diary.Lawful.{IsLawful}
 use Rattle.smil_model.specs.interval.Current.{current_interval}
-use Rattle.smil_model.specs.shown.Histories.{ShownInterval as ToldInterval, all_plays, told_finished}
+use Rattle.smil_model.specs.shown.Answers.{told_line}
+use Rattle.smil_model.specs.shown.Histories.{all_plays, told_finished}
 use Rattle.smil_model.specs.shown.Lines.{interval_line}
 use Rattle.smil_model.specs.shown.Views.{document_value, shown_or, shown_time, view_facts}
 use Rattle.smil_stretch.specs.Clocks.{AreClocksOf}
 use Rattle.smil_past.specs.Followed.{shown_begun_after}
 use Rattle.smil_shown.specs.declared.interval_teller.IntervalTeller.{IntervalTeller}
-
--- the line of an interval as it is shown
-abbrev pub told_line : Who → ToldInterval → List ℕ
-told_line name t = interval_line name t.begin t.finish t.how
 
 -- the lines of the intervals that have finished
 abbrev pub finished_text : History → ℕ → Who → List ℕ

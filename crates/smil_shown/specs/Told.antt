@@ -1,11 +1,10 @@
 -- What is told of views and of nodes.
-use Rattle.std.specs.Prelude.{ℕ, ℤ, List, flat_map, filter, not, is_some}
+use Rattle.std.specs.Prelude.{ℕ, ℤ, List, flat_map}
 use Rattle.smil_model.specs.declared.document.Node.{Node}
 use Rattle.smil_model.specs.declared.view.View.{View}
-use Rattle.smil_model.specs.document.Document.{elements, node_at}
 use Rattle.smil_model.specs.shown.Answers.{change_text}
 use Rattle.smil_model.specs.shown.Lines.{gone_line, name_of}
-use Rattle.smil_model.specs.shown.Orders.{at_moment, changed}
+use Rattle.smil_model.specs.shown.Orders.{at_moment, changed, gone_from}
 
 -- the lines of views at a moment
 abbrev pub lines_of : List Node → ℕ → List View → List ℕ
@@ -14,11 +13,6 @@ lines_of nodes moment views = flat_map (change_text nodes) (at_moment moment vie
 -- the lines of the views that differ from those before
 abbrev pub lines_between : List Node → ℕ → List View → List View → List ℕ
 lines_between nodes moment before after = lines_of nodes moment (changed before after)
-
--- the elements of a document that another doesn't have
-abbrev pub gone_from : List Node → List Node → List Node
-gone_from after before =
-    filter (λ (n : Node). not (is_some (node_at after n.serial))) (elements before)
 
 -- their lines
 abbrev pub lines_gone : List Node → ℤ → List Node → List ℕ

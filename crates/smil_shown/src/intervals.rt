@@ -8,8 +8,9 @@ ghost use Rattle.smil_model.specs.shown.Orders.{IsState};
 ghost use Rattle.smil_model.specs.shown.Views.{shown_time, view_facts};
 ghost use Rattle.smil_laws.specs.Near.{IsTimeNear};
 ghost use Rattle.smil_model.specs.document.Words.{Begins};
+ghost use Rattle.smil_model.specs.shown.Answers.{told_line};
 ghost use Rattle.smil_cells.specs.CellsState.{IsSettled, history_of};
-ghost use Rattle.smil_shown.specs.Histories.{end_at, present_line, told_line};
+ghost use Rattle.smil_shown.specs.Histories.{end_at, present_line};
 
 use super::interval_teller::IntervalTeller;
 use smil_cells::{Cells, Table};

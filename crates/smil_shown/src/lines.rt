@@ -109,10 +109,8 @@ pub fn put_all_gone(scene: Scene<'_>, after: &Tree, out: &mut Bytes) -> Result<(
     ensures err { OnErr result (Begins out.old out.new) }
 {
     scene.tree.valid();
-    let mut place = 0;
-    while let Some(serial) = scene.tree.serial_at(place) {
-        put_where_gone(scene, after, serial, out)?;
-        place += 1;
+    for node in scene.tree.nodes() {
+        put_where_gone(scene, after, node.serial, out)?;
     }
     Ok(())
 }

@@ -3,9 +3,10 @@
 ghost use Rattle.std.specs.Prelude.{◌≡◌, ℕ, ◌==◌, List, IfOk, IsSome, OnOk, if◌then◌else◌, slice_get};
 ghost use Rattle.smil_model.specs.declared.view.Layer.{Layer as AnyLayer};
 ghost use Rattle.smil_model.specs.document.Document.{node_at};
-ghost use Rattle.smil_model.specs.shown.Sandwich.{layers, names_on, put_name, stack_of};
+ghost use Rattle.smil_model.specs.shown.Sandwich.{layer_in, layers, names_on, put_name, stack_of};
+ghost use Rattle.smil_model.specs.ListTables.{list_of};
 ghost use Rattle.smil_sandwich.specs.Stacks.{AreApart};
-ghost use Rattle.smil_shown.specs.Sets.{AreOfElements, AreSetsOf, and_layer, layer_in, names_in};
+ghost use Rattle.smil_shown.specs.Sets.{AreOfElements, AreSetsOf, and_layer};
 
 use super::layers::layer;
 use super::names::put_name;
@@ -26,11 +27,12 @@ pub struct Sets {
 }
 
 impl Model for Sets {
-    ghost use Rattle.smil_shown.specs.Sets.{LayerTable, rows_in};
+    ghost use Rattle.smil_model.specs.ListTables.{rows};
+    ghost use Rattle.smil_shown.specs.Sets.{LayerTable};
 
     ghost Value = { LayerTable };
 
-    ghost view = { λ s. record { layers = s.sandwich; names = rows_in s.names.entries } };
+    ghost view = { λ s. record { layers = s.sandwich; names = rows s.names.entries } };
 }
 
 impl Sets {
@@ -96,8 +98,8 @@ fn note(
     target: u32,
     name: &Bytes,
 ) -> Result<(), AllocError>
-    ensures { OnOk result ((t : ℕ) → names_in table.new.entries t
-        ≡ (if target == t then put_name (names_in table.old.entries t) name.now else names_in
+    ensures { OnOk result ((t : ℕ) → list_of table.new.entries t
+        ≡ (if target == t then put_name (list_of table.old.entries t) name.now else list_of
         table.old.entries t)) }
 {
     if let Some(names) = table.get_mut(&target) {

@@ -245,10 +245,10 @@ fn idle_clocks(alloc: Global, tree: &Tree) -> Result<Vec<NodeClock>, AllocError>
         ≡ map (idle_clock tree.now.nodes) tree.now.nodes) }
 {
     let mut clocks = Vec::new(alloc);
-    while let Some(serial) = tree.serial_at(clocks.len()) {
+    for node in tree.nodes() {
         clocks.push(NodeClock {
-            serial,
-            parent: parent_place(tree, serial),
+            serial: node.serial,
+            parent: parent_place(tree, node.serial),
             paused: false,
             clock: Clock::Runs { lost: 0 },
         })?;

@@ -21,7 +21,7 @@ use Rattle.smil_model.specs.document.Words.{is_key}
 use Rattle.smil_grammar.specs.Results.{◌>>=◌}
 use Rattle.smil_grammar.specs.Clock.{clock_text}
 use Rattle.smil_grammar.specs.Items.{item_of, IsItem}
-use Rattle.smil_grammar.specs.Lists.{item_at, piece_at, items_from, pieces_of, few_items, is_plain, plain_at, first_place, list_of, IsList, GivesList}
+use Rattle.smil_grammar.specs.Lists.{item_at, piece_at, items_from, item_pieces, few_items, is_plain, plain_at, first_place, list_of, IsList, GivesList}
 use Rattle.smil_grammar.specs.Spellings.{escaped, of_who, tail_text, item_text, list_text, CanWrite}
 use Rattle.smil_lexis.proofs.Fronts.{Passes, passes_weaker, passes_on}
 use Rattle.smil_lexis.proofs.Decimals.{decimal_passes}
@@ -96,7 +96,7 @@ Printables items = AllByRecursion Printable items
 apart : (item : Item) → Printable item → All (λ b. eqb b 59 ≡ false) (item_text item)
 apart item h = All-weaker (λ b. is_ink b ≡ true) (λ b. eqb b 59 ≡ false) ink_no_semicolon (item_text item) (All-from_recursion (λ b. is_ink b ≡ true) (item_text item) (item_ink item h))
 
-pieces_again : (item : Item) (items : List Item) → Printables (item ∷ items) → pieces_of (list_text (item ∷ items)) ≡ map item_text (item ∷ items)
+pieces_again : (item : Item) (items : List Item) → Printables (item ∷ items) → item_pieces (list_text (item ∷ items)) ≡ map item_text (item ∷ items)
 pieces_again item [] h = slice_split_none (λ b. eqb b 59) (item_text item) (apart item h.0)
 pieces_again item (next ∷ items) h = slice_split_at (λ b. eqb b 59) (item_text item) 59 (list_text (next ∷ items)) (apart item h.0) refl ∙ ap (λ (t : List (List ℕ)). item_text item ∷ t) (pieces_again next items h.1)
 
@@ -151,8 +151,8 @@ counted n (Ok items) some few h = (h.0, omega (arith, h.1), omega (arith, h.1))
 counted n (Err e) some few h = tt
 
 few_give : (first : Option ℕ) (text : List ℕ) → IfOk (few_items first text) AreFew
-few_give first text = cond_both (ltb 32 (length (pieces_of text))) (Err TooManyItems) (items_from first 0 (pieces_of text)) (λ r. IfOk r AreFew) (λ e. tt)
-    (λ e. counted (length (pieces_of text)) (items_from first 0 (pieces_of text)) (omega (arith, length-slice_split (λ b. eqb b 59) text)) (ltb-false _ _ e) (items_give first 0 (pieces_of text)))
+few_give first text = cond_both (ltb 32 (length (item_pieces text))) (Err TooManyItems) (items_from first 0 (item_pieces text)) (λ r. IfOk r AreFew) (λ e. tt)
+    (λ e. counted (length (item_pieces text)) (items_from first 0 (item_pieces text)) (omega (arith, length-slice_split (λ b. eqb b 59) text)) (ltb-false _ _ e) (items_give first 0 (item_pieces text)))
 
 abbrev ArePlain : List Item → Type 0
 ArePlain items = (AreFew items) × (is_plain items ≡ true)

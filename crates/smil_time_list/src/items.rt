@@ -8,7 +8,7 @@ ghost use Rattle.smil_model.specs.declared.document.Item.TheVariants.{Event};
 ghost use Rattle.smil_grammar.specs.Items.{item_of, GivesItem, sync_of, repeat_of, word_of, what_of, of_element as item_of_element, named_of, subject_of, with_tail, key_of, is_keyed as is_keyed_text, is_left_out as is_left_out_text};
 
 use super::offsets::{count, is_sign, offset, tail};
-use smil_grammar::ItemFault;
+use smil_grammar::{ACCESS_KEY, ItemFault};
 use smil_lexis::runs;
 use smil_lexis::texts::{behind, cut, is, is_key, past, unescaped};
 use smil_model::{Bytes, Edge, Item};
@@ -90,7 +90,7 @@ fn is_left_out(text: &[u8]) -> bool
 fn is_keyed(text: &[u8]) -> bool
     ensures { result ≡ is_keyed_text text.now }
 {
-    text.starts_with(b"accesskey(") || text.starts_with(b"accessKey(")
+    text.starts_with(ACCESS_KEY) || text.starts_with(b"accessKey(")
 }
 
 // The text stands behind the opening parenthesis.
@@ -126,7 +126,7 @@ fn named(alloc: Global, text: &[u8]) -> Result<Item, ItemFault>
         return Err(ItemFault::Unsupported);
     }
     if is_keyed(text) {
-        return key(past(text, 10)).ok_or(ItemFault::Bad);
+        return key(past(text, ACCESS_KEY.len())).ok_or(ItemFault::Bad);
     }
     if is(text, b"indefinite") {
         return Ok(Item::Indefinite);

@@ -3,7 +3,7 @@
 ghost use Rattle.std.specs.Prelude.{◌≡◌, ℕ, ◌==◌, count_by, ◌≤◌, ◌<◌, ◌+◌, ◌^◌, ◌||◌, ◌&&◌, Bool, true, false, MatchOption, IfSome, IfOk, All, List, [], ◌∷◌, length, Result, Ok};
 ghost use Rattle.smil_model.specs.declared.limits.TheConstants.{ITEMS};
 ghost use Rattle.smil_grammar.specs.Texts.{semicolon};
-ghost use Rattle.smil_grammar.specs.Lists.{list_of, few_items, items_from, piece_at, is_plain as is_plain_list, pieces_of, GivesList, is_begin};
+ghost use Rattle.smil_grammar.specs.Lists.{list_of, few_items, items_from, piece_at, is_plain as is_plain_list, item_pieces, GivesList, is_begin};
 ghost use Rattle.smil_grammar.specs.Spellings.{CanWrite};
 ghost use Rattle.smil_time_list.specs.Pieces.{with_front, GivesMore};
 
@@ -16,8 +16,8 @@ use std::alloc::Global;
 
 // What stands before and behind the first `;`.
 fn split(text: &[u8]) -> Option<(&[u8], &[u8])>
-    ensures pieces { MatchOption result (pieces_of text.now ≡ text.now ∷ [])
-        (λ cut. pieces_of text.now ≡ cut.0.now ∷ pieces_of cut.1.now) }
+    ensures pieces { MatchOption result (item_pieces text.now ≡ text.now ∷ [])
+        (λ cut. item_pieces text.now ≡ cut.0.now ∷ item_pieces cut.1.now) }
     ensures length { IfSome result
         (λ cut. length cut.0.now + 1 + length cut.1.now ≡ length text.now) }
 {
@@ -59,9 +59,9 @@ impl Reader {
     // Reads the pieces of a text, which stands at this place, and appends their items.
     fn more(&self, items: &mut Items, text: &[u8], place: usize) -> Result<(), ListFault>
         requires place { place + length text.now < 2 ^ 64 }
-        requires room { length items.old + length (pieces_of text.now) ≤ ITEMS }
+        requires room { length items.old + length (item_pieces text.now) ≤ ITEMS }
         ensures { GivesMore items.new result
-            (with_front items.old (items_from self.now.first place (pieces_of text.now))) }
+            (with_front items.old (items_from self.now.first place (item_pieces text.now))) }
     {
         match split(text) {
             Some((front, rest)) => {
@@ -77,8 +77,8 @@ impl Reader {
 
     // The items of a text of no more pieces than a list may have.
     fn all(&self, text: &[u8]) -> Result<Items, ListFault>
-        requires { length (pieces_of text.now) ≤ ITEMS }
-        ensures { GivesList result (items_from self.now.first 0 (pieces_of text.now)) }
+        requires { length (item_pieces text.now) ≤ ITEMS }
+        ensures { GivesList result (items_from self.now.first 0 (item_pieces text.now)) }
     {
         match split(text) {
             Some((front, rest)) => {

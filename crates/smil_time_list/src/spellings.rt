@@ -4,12 +4,14 @@ ghost use Rattle.std.specs.Prelude.{◌≡◌, ℕ, ◌++◌, nat_abs, codes, Li
 ghost use Rattle.smil_model.specs.Times.{IsMoment, IsNear};
 ghost use Rattle.smil_model.specs.declared.document.Item.TheVariants.{Sync, Event, Repeat, Key};
 ghost use Rattle.smil_grammar.specs.Clock.{clock_text};
+ghost use Rattle.smil_grammar.specs.declared.words.TheConstants.{ACCESS_KEY};
 ghost use Rattle.smil_grammar.specs.Spellings.{escaped, offset_text, tail_text, of_who, edge_text, item_text, list_text, CanWrite};
 ghost use Rattle.smil_model.specs.document.Words.{Begins};
 ghost use Rattle.smil_time_list.specs.Joined.{next_text};
 
 use itoa::Buffer;
 use smil_clock_value::write_clock;
+use smil_grammar::ACCESS_KEY;
 use smil_lexis::writers::undone;
 use smil_model::{Bytes, Edge, Item, Items};
 use std::alloc::AllocError;
@@ -139,11 +141,11 @@ fn put_repeat(who: &Option<Bytes>, n: u32, offset: i64, out: &mut Bytes) -> Resu
 // Appends an access key.
 #[tactic(auto, using(smil_model::proofs::Growing::begins_on))]
 fn put_call(key: u8, out: &mut Bytes) -> Result<(), AllocError>
-    ensures ok { OnOk result (out.new ≡ out.old ++ (codes "accesskey(" ++ (key ∷ [])
+    ensures ok { OnOk result (out.new ≡ out.old ++ (ACCESS_KEY.now ++ (key ∷ [])
         ++ codes ")")) }
     ensures err { OnErr result (Begins out.old out.new) }
 {
-    out.append(b"accesskey(")?;
+    out.append(ACCESS_KEY)?;
     out.append(&[key])?;
     out.append(b")")
 }

@@ -3,7 +3,7 @@ use Rattle.std.proofs.Common.{◌≡◌, ◌∷◌, Bool, true, false, List, [],
 use Rattle.std.specs.Prelude.{ℕ, map, filter, if◌then◌else◌}
 use Rattle.std.proofs.lemmas.Bool.{or_parts}
 use Rattle.smil_model.specs.document.Limits.{Limits}
-use Rattle.smil_grammar.specs.Scripts.{is_title}
+use Rattle.smil_grammar.specs.Scripts.{is_presentation_name}
 use Rattle.smil_top.specs.Cut.{OrderLines}
 use Rattle.smil_top.specs.Session.{Session}
 use Rattle.smil_top.specs.Answers.{Answer, answer_within}
@@ -13,7 +13,7 @@ use Rattle.smil_top.proofs.Apart.{order_stays, own_order}
 use Rattle.smil_top.proofs.Aside.{are_aside}
 use Rattle.smil_top.proofs.Transcripts.{sessions_from, sessions-told}
 
-module _ (allowed : Limits) (name : List ℕ) (title : is_title name ≡ true) where
+module _ (allowed : Limits) (name : List ℕ) (is_name : is_presentation_name name ≡ true) where
   abbrev answering : Answering
   answering = answer_within allowed
 
@@ -28,7 +28,7 @@ module _ (allowed : Limits) (name : List ℕ) (title : is_title name ≡ true) w
   own_by : (session : Session) (order : OrderLines) (lacks : Bool) → is_of name order ≡ true
       → refuses_as is_too_many (heard (answer_to answering session (record { order = order; lacks = lacks }))) ≡ false → Same session (record { order = order; lacks = lacks })
   own_by session order true h few = record { answer = refl; after = refl }
-  own_by session order false h few = let own = own_order allowed name session order title h few in record { answer = own.answer; after = own.after }
+  own_by session order false h few = let own = own_order allowed name session order is_name h few in record { answer = own.answer; after = own.after }
 
   own_one : (session : Session) (one : OrderAttempt) → is_of name one.order ≡ true → refuses_as is_too_many (heard (answer_to answering session one)) ≡ false → Same session one
   own_one session one h few = own_by session one.order one.lacks h few

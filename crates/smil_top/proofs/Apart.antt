@@ -12,7 +12,7 @@ use Rattle.smil_model.specs.shown.Lines.{ok_line, closed_line}
 use Rattle.smil_grammar.specs.declared.read.Read.{Read}
 use Rattle.smil_grammar.specs.declared.read.Read.TheVariants.{Blank, Load, Close, To}
 use Rattle.smil_grammar.specs.Results.{◌>>=◌}
-use Rattle.smil_grammar.specs.Scripts.{is_title, line_of}
+use Rattle.smil_grammar.specs.Scripts.{is_presentation_name, line_of}
 use Rattle.smil_grammar.specs.Formats.{formats}
 use Rattle.smil_grammar.specs.Outlines.{Outline, no_lines, ended, version_of}
 use Rattle.smil_live.proofs.AgreedReferences.{bytes_same}
@@ -97,8 +97,8 @@ module _ (allowed : Limits) (name : List ℕ) (session : Session) where
   given_stays : (lines : LoadLines) (end_line : ℕ) (g : Result LoadedDocument Fault) → given_within allowed lines end_line ≡ g → loads name (line_of lines.head.text) ≡ false
       → Stays (g >>= λ given. at_line lines.head.number (loaded_within allowed session lines.head.number given))
   given_stays lines end_line (Ok given) e h =
-      let title = given_name allowed lines.head.number end_line lines.nodes (line_of lines.head.text) given e in
-      loaded_stays lines.head.number given.name (ap (loads name) (sym title) ∙ h) given.document (may_load given.name session)
+      let is_name = given_name allowed lines.head.number end_line lines.nodes (line_of lines.head.text) given e in
+      loaded_stays lines.head.number given.name (ap (loads name) (sym is_name) ∙ h) given.document (may_load given.name session)
   given_stays lines end_line (Err fault) e h = refl
 
   pub order_stays : (order : OrderLines) → is_of name order ≡ false → Stays (answer_within allowed session order)
@@ -214,12 +214,12 @@ module _ (allowed : Limits) (name : List ℕ) (session : Session) where
       (loads_is (line_of lines.head.text) given (given_name allowed lines.head.number end_line lines.nodes (line_of lines.head.text) given e) h) few
   given_alike lines end_line (Err fault) e h few = refused_alike fault
 
-  order_is_alike : (order : OrderLines) → is_title name ≡ true → is_of name order ≡ true → refuses_as is_too_many (heard (answer_within allowed session order)) ≡ false
+  order_is_alike : (order : OrderLines) → is_presentation_name name ≡ true → is_of name order ≡ true → refuses_as is_too_many (heard (answer_within allowed session order)) ≡ false
       → Alike (answer_within allowed part order) (answer_within allowed session order)
   order_is_alike (single line) t h few = single_alike line.number (is_short line.text) (line_of line.text) (own_line name line.text t h)
   order_is_alike (load lines None) t h few = refused_alike _
   order_is_alike (load lines (Some end_line)) t h few = given_alike lines end_line (given_within allowed lines end_line) refl h few
 
-  pub own_order : (order : OrderLines) → is_title name ≡ true → is_of name order ≡ true → refuses_as is_too_many (heard (answer_within allowed session order)) ≡ false
+  pub own_order : (order : OrderLines) → is_presentation_name name ≡ true → is_of name order ≡ true → refuses_as is_too_many (heard (answer_within allowed session order)) ≡ false
       → HasOwn allowed name session order
   own_order order t h few = let alike = order_is_alike order t h few in record { answer = alike.heard_is; after = alike.after_is }

@@ -63,11 +63,11 @@ module _ (allowed : Limits) (given : ℕ → ℕ) where
   nodes-moved name end_line (Ok outline) = ended-moved name outline end_line (ended outline)
   nodes-moved name end_line (Err fault) = refl
 
-  title-moved : (line end_line : ℕ) (nodes : List NumberedLine) (r : Result (List ℕ) Refusal)
+  name-moved : (line end_line : ℕ) (nodes : List NumberedLine) (r : Result (List ℕ) Refusal)
       → (at_line (given line) r >>= λ name. nodes_from name (given end_line) (outline_from allowed no_lines (map (numbered_by given) nodes)))
       ≡ moved (at_line line r >>= λ name. nodes_from name end_line (outline_from allowed no_lines nodes))
-  title-moved line end_line nodes (Ok name) = ap (nodes_from name (given end_line)) (outline-moved no_lines nodes) ∙ nodes-moved name end_line (outline_from allowed no_lines nodes)
-  title-moved line end_line nodes (Err refusal) = refl
+  name-moved line end_line nodes (Ok name) = ap (nodes_from name (given end_line)) (outline-moved no_lines nodes) ∙ nodes-moved name end_line (outline_from allowed no_lines nodes)
+  name-moved line end_line nodes (Err refusal) = refl
 
   -- ---- answers
 
@@ -132,7 +132,7 @@ module _ (allowed : Limits) (given : ℕ → ℕ) where
     order_same (load lines None) = (refused_at lines.head.number _, refl)
     order_same (load lines (Some end_line)) =
         subst (λ (g : Result LoadedDocument Fault). Same lines.head.number (given_at lines.head.number (given_within allowed lines end_line)) (given_at (given lines.head.number) g))
-        (sym (title-moved lines.head.number end_line lines.nodes (line_of lines.head.text >>= name_of))) (given_same lines.head.number (given_within allowed lines end_line))
+        (sym (name-moved lines.head.number end_line lines.nodes (line_of lines.head.text >>= name_of))) (given_same lines.head.number (given_within allowed lines end_line))
 
     renumbered-first : (order : OrderLines) → first_line (renumbered given order) ≡ given (first_line order)
     renumbered-first (single line) = refl

@@ -28,7 +28,7 @@ use Rattle.smil_grammar.specs.declared.fault.NodeFault.{NodeFault}
 use Rattle.smil_grammar.specs.declared.fault.NodeFault.TheVariants as fault
 use Rattle.smil_grammar.specs.Results.{◌>>=◌}
 use Rattle.smil_grammar.specs.Positions.{Piece}
-use Rattle.smil_grammar.specs.Scripts.{OrderReading, given, timed, end_timed, finish, or_refused, to, named, is_title, order_line, command, first_of, line_of}
+use Rattle.smil_grammar.specs.Scripts.{OrderReading, given, timed, end_timed, finish, or_refused, to, named, is_presentation_name, order_line, command, first_of, line_of}
 use Rattle.smil_grammar.specs.Formats.{formats, written_at}
 use Rattle.smil_grammar.specs.Nodes.{Shape, is_space, shape_of, kind_of_shape}
 use Rattle.smil_grammar.specs.Outlines.{Outline, no_lines, refuse_if, is_misplaced, is_bad_serial, has_id, in_line, attrs_in, last_of, node_within, opens_saved, shape_in, with_header, header_of, shape_within, read_within, line_within, ended, with_node}
@@ -158,7 +158,7 @@ command_sure cut =
     let verb : Piece × Piece = first_of cut.1 in
     either is_memory (bytes_eq cut.0.text (codes "load")) _ _ (or_sure (named Load cut.1))
     (either is_memory (bytes_eq cut.0.text (codes "close")) _ _ (or_sure (named Close cut.1))
-    (either is_memory (is_title cut.0.text) _ _ (to_sure cut.0.text (finish (order_line verb.0.text verb.1)) (finish_sure (order_line verb.0.text verb.1))) (no refusal.NotACommand refl)))
+    (either is_memory (is_presentation_name cut.0.text) _ _ (to_sure cut.0.text (finish (order_line verb.0.text verb.1)) (finish_sure (order_line verb.0.text verb.1))) (no refusal.NotACommand refl)))
 
 says_sure : (line : List ℕ) → Fine (line_of line)
 says_sure line = either is_memory _ _ _ (made is_memory Blank) (command_sure (first_of (record { text = line; place = 0 })))

@@ -178,11 +178,11 @@ within-bounds (Err fault) text counts house session order rise made counted enou
         let least_is : number_of least session order ≡ 0 = refused-0 least least_spares session order fault (sym is) in
         (omega arith, omega arith)
 
-pub evaluated-more : (run : Run) (new : Counts) (orders : List OrderLines) (told : TranscriptState) (order : OrderLines) (answered : Result (Unit {0}) Fault) (text : AnswerText) (house : Presentations) (before after : ℕ) →
+pub evaluated-more : {run : Run} {new : Counts} {orders : List OrderLines} {told : TranscriptState} (order : OrderLines) (answered : Result (Unit {0}) Fault) (text : AnswerText) (house : Presentations) (before after : ℕ) →
     Tells false run orders told → MakesAnswer answered text house told.session answer_of order →
     IsOrderCounted answered (λ bound. number_of bound told.session order) (after - before) → before ≤ after →
     new ≡ counted_as answered text run.counts → EvaluatesOn run.counts new orders (orders ++ order ∷ []) before after
-evaluated-more run new orders told order answered text house before after tells made counted le counts start evaluated = record {
+evaluated-more {run} {new} {orders} {told} order answered text house before after tells made counted le counts start evaluated = record {
   risen = omega (arith, evaluated.risen, le);
   bounded = λ enough none.
       let enough_now : (counted_as answered text run.counts).memory ≡ false = ap (λ (k : Counts). k.memory) (sym counts) ∙ enough in

@@ -2,7 +2,7 @@
 use Rattle.std.proofs.Common.{◌≡◌, ◌∷◌, ℕ, Bool, true, false, List, [], refl, ap, sym, subst, ◌∙◌}
 use Rattle.std.specs.Prelude.{map, filter, flat_map, if◌then◌else◌}
 use Rattle.smil_model.specs.document.Limits.{Limits}
-use Rattle.smil_grammar.specs.Scripts.{is_title}
+use Rattle.smil_grammar.specs.Scripts.{is_presentation_name}
 use Rattle.smil_top.specs.Cut.{OrderLines, orders}
 use Rattle.smil_top.specs.Answers.{answer_within}
 use Rattle.smil_top.specs.Transcript.{Answering, TranscriptState}
@@ -25,13 +25,13 @@ ease-renumbered : (given : ℕ → ℕ) (all : List OrderLines) → map (renumbe
 ease-renumbered given [] = refl
 ease-renumbered given (order ∷ others) = ap (λ (zs : List OrderAttempt). with_ease (renumbered given order) ∷ zs) (ease-renumbered given others)
 
-pub alone_in_input : (allowed : Limits) (name : List ℕ) (lines : List (List ℕ)) → is_title name ≡ true
+pub alone_in_input : (allowed : Limits) (name : List ℕ) (lines : List (List ℕ)) → is_presentation_name name ≡ true
     → any_refused_as is_too_many (answered_by (answer_within allowed) (map with_ease (orders lines))) ≡ false
     → IsAloneInInput (answer_within allowed) name lines
-alone_in_input allowed name lines title few =
+alone_in_input allowed name lines is_name few =
     let answering : Answering = answer_within allowed in
     let tried : List OrderAttempt = map with_ease (orders lines) in
-    let alone = is_alone allowed name title tried few in
+    let alone = is_alone allowed name is_name tried few in
     let cut = cut_again lines (is_of name) in
     let own : List (List ℕ) = flat_map lines_of (filter (is_of name) (orders lines)) in
     let same : map (renumbered_try cut.0) (own_tried name tried) ≡ map with_ease (orders own) =

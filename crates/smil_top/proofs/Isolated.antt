@@ -8,7 +8,7 @@ use Rattle.smil_model.specs.declared.order.Refusal.TheVariants.{NotACommand}
 use Rattle.smil_grammar.specs.declared.read.Read.{Read}
 use Rattle.smil_grammar.specs.declared.read.Read.TheVariants.{Blank, Load, Close, To}
 use Rattle.smil_grammar.specs.Positions.{Piece}
-use Rattle.smil_grammar.specs.Scripts.{first_of, is_ended, is_title, is_blank, to, named, or_refused, order_line, finish, command, line_of}
+use Rattle.smil_grammar.specs.Scripts.{first_of, is_ended, is_presentation_name, is_blank, to, named, or_refused, order_line, finish, command, line_of}
 use Rattle.smil_live.proofs.AgreedReferences.{bytes_same}
 use Rattle.smil_top.specs.Cut.{OrderLines, single, load}
 use Rattle.smil_top.specs.Laws.{first_word, closes, loads, is_of}
@@ -26,7 +26,7 @@ made true false x read e = absurd cc
 made false b x read e = absurd cc
 
 named_made : (kind : List ℕ → Read) (rest : Piece) (read : Read) → or_refused (named kind rest) ≡ Ok read → kind (first_of rest).0.text ≡ read
-named_made kind rest read e = made (is_title (first_of rest).0.text) (is_ended (first_of rest).1) (kind (first_of rest).0.text) read e
+named_made kind rest read e = made (is_presentation_name (first_of rest).0.text) (is_ended (first_of rest).1) (kind (first_of rest).0.text) read e
 
 said_to : (word : List ℕ) (r : Result Order Refusal) (read : Read) → to word r ≡ Ok read → Said word read
 said_to word (Ok order) read e = let is : To word order ≡ read = cc in subst (Said word) is refl
@@ -45,14 +45,14 @@ said_line : (text : List ℕ) (b : Bool) (read : Read) → (if b then Ok Blank e
 said_line text true read e = let is : Blank ≡ read = cc in subst (Said (first_word text)) is tt
 said_line text false read e =
     let cut : Piece × Piece = first_of (record { text = text; place = 0 }) in
-    said_by cut (bytes_eq cut.0.text (codes "load")) (bytes_eq cut.0.text (codes "close")) (is_title cut.0.text) read refl e
+    said_by cut (bytes_eq cut.0.text (codes "load")) (bytes_eq cut.0.text (codes "close")) (is_presentation_name cut.0.text) read refl e
 
 pub said : (text : List ℕ) (read : Read) → line_of text ≡ Ok read → Said (first_word text) read
 said text read e = said_line text (is_blank text) read e
 
 -- `close` is no name
-no_title : (name : List ℕ) → name ≡ codes "close" → is_title name ≡ true → ⊥
-no_title name e t = let never : false ≡ true = subst (λ (word : List ℕ). is_title word ≡ true) e t in absurd cc
+no_title : (name : List ℕ) → name ≡ codes "close" → is_presentation_name name ≡ true → ⊥
+no_title name e t = let never : false ≡ true = subst (λ (word : List ℕ). is_presentation_name word ≡ true) e t in absurd cc
 
 -- ---- orders of one name
 
@@ -68,7 +68,7 @@ module _ (name : List ℕ) where
   IsOther (Ok (Close other)) = bytes_eq other name ≡ false
   IsOther _ = Unit {0}
 
-  own_by : (word : List ℕ) (r : Result Read Refusal) → ((read : Read) → r ≡ Ok read → Said word read) → is_title name ≡ true → (bytes_eq word name || closes name r) ≡ true → IsOwn r
+  own_by : (word : List ℕ) (r : Result Read Refusal) → ((read : Read) → r ≡ Ok read → Said word read) → is_presentation_name name ≡ true → (bytes_eq word name || closes name r) ≡ true → IsOwn r
   own_by word (Err refusal) h t e = tt
   own_by word (Ok Blank) h t e = tt
   own_by word (Ok (Load other)) h t e = tt
@@ -88,7 +88,7 @@ module _ (name : List ℕ) where
   other_by word (Ok (To other order)) h e = ap (λ (w : List ℕ). bytes_eq w name) (sym (h (To other order) refl)) ∙ (or_parts (bytes_eq word name) false e).0
   other_by word (Ok (Close other)) h e = (or_parts (bytes_eq word name) (bytes_eq other name) e).1
 
-  pub own_line : (text : List ℕ) → is_title name ≡ true → (bytes_eq (first_word text) name || closes name (line_of text)) ≡ true → IsOwn (line_of text)
+  pub own_line : (text : List ℕ) → is_presentation_name name ≡ true → (bytes_eq (first_word text) name || closes name (line_of text)) ≡ true → IsOwn (line_of text)
   own_line text t e = own_by (first_word text) (line_of text) (said text) t e
 
   pub other_line : (text : List ℕ) → (bytes_eq (first_word text) name || closes name (line_of text)) ≡ false → IsOther (line_of text)
@@ -111,10 +111,10 @@ loads_one name other (Ok Blank) e d = absurd cc
 loads_one name other (Err refusal) e d = absurd cc
 
 -- a line that closes something has no name as its first word
-not_first : (text name other : List ℕ) → is_title name ≡ true → bytes_eq (first_word text) name ≡ true → closes other (line_of text) ≡ true → ⊥
+not_first : (text name other : List ℕ) → is_presentation_name name ≡ true → bytes_eq (first_word text) name ≡ true → closes other (line_of text) ≡ true → ⊥
 not_first text name other t e d = no_title name (sym (bytes_same (first_word text) name e) ∙ said text (Close other) (closes_is other (line_of text) d)) t
 
-pub of_one : (name other : List ℕ) (order : OrderLines) → is_title name ≡ true → is_title other ≡ true → is_of name order ≡ true → is_of other order ≡ true → name ≡ other
+pub of_one : (name other : List ℕ) (order : OrderLines) → is_presentation_name name ≡ true → is_presentation_name other ≡ true → is_of name order ≡ true → is_of other order ≡ true → name ≡ other
 of_one name other (single line) t u e d = by (or_cases _ _ e) (or_cases _ _ d)
   where
     by : (bytes_eq (first_word line.text) name ≡ true) ⊎ (closes name (line_of line.text) ≡ true) → (bytes_eq (first_word line.text) other ≡ true) ⊎ (closes other (line_of line.text) ≡ true) → name ≡ other

@@ -21,6 +21,6 @@ pub mod SumLemmas
 pub mod Summed
 pub mod Sure
 pub mod Tells
-pub mod TitleLemmas
+pub mod ShortNames
 pub mod Transcripts
 pub mod Writing

@@ -12,7 +12,7 @@ use Rattle.smil_top.specs.declared.load.Load.{Load}
 use Rattle.smil_top.specs.declared.loaded.NamedOutline.{NamedOutline}
 use Rattle.smil_top.specs.Cut.{NumberedLine, LoadLines}
 use Rattle.smil_top.specs.Answers.{at_line, name_of, outline_from, given_within}
-use Rattle.smil_top.specs.Running.{Gives, IsRead, Reads, ReadsTitle, given_at, reading_of, with_node}
+use Rattle.smil_top.specs.Running.{Gives, IsRead, Reads, ReadsName, given_at, reading_of, with_node}
 
 -- ---- chains of steps that may be refused
 
@@ -61,9 +61,9 @@ reading-more lines this =
     ∙ chain name (outline_from limits no_lines lines.nodes) (λ (o : Outline). at_line this.number (line_within limits o this.text))
 
 -- the line was read behind those before it
-pub reads-ok : (lines : LoadLines) (this : NumberedLine) (titled : NamedOutline) (reading : Result NamedOutline Fault) → Reads (Ok titled) (reading_of lines) →
-    Reads reading (with_node titled.name titled.outline this) → Reads reading (reading_of (more_lines lines this))
-reads-ok lines this titled reading was step =
+pub reads-ok : (lines : LoadLines) (this : NumberedLine) (named : NamedOutline) (reading : Result NamedOutline Fault) → Reads (Ok named) (reading_of lines) →
+    Reads reading (with_node named.name named.outline this) → Reads reading (reading_of (more_lines lines this))
+reads-ok lines this named reading was step =
     subst (λ r. Reads reading r) (sym (reading-more lines this ∙ ap (λ r. r >>= λ (x : List ℕ × Outline). with_node x.0 x.1 this) was)) step
 
 -- the fault of a line before it stays
@@ -71,21 +71,21 @@ pub reads-err : (lines : LoadLines) (this : NumberedLine) (fault : Fault) → Re
     Reads (Err fault) (reading_of (more_lines lines this))
 reads-err lines this fault was = reading-more lines this ∙ ap (λ r. r >>= λ (x : List ℕ × Outline). with_node x.0 x.1 this) was
 
--- a line behind this title, in a load that begins at a line
+-- a line behind this name, in a load that begins at a line
 abbrev pub IsNodeAt : ℕ → NumberedLine → Result NamedOutline Fault → NamedOutline → Type 0
-IsNodeAt first this reading titled =
-    Reads reading (with_node titled.name titled.outline this) ⊎ (reading ≡ Err (record { line = first; refusal = Memory }))
+IsNodeAt first this reading named =
+    Reads reading (with_node named.name named.outline this) ⊎ (reading ≡ Err (record { line = first; refusal = Memory }))
 
-pub IsRead-ok : (load : Load) (lines : LoadLines) (this : NumberedLine) (titled : NamedOutline) (reading : Result NamedOutline Fault) → load.reading ≡ Ok titled → IsRead load lines →
-    Reads reading (with_node titled.name titled.outline this) ⊎ (reading ≡ Err (record { line = load.line; refusal = Memory })) →
+pub IsRead-ok : (load : Load) (lines : LoadLines) (this : NumberedLine) (named : NamedOutline) (reading : Result NamedOutline Fault) → load.reading ≡ Ok named → IsRead load lines →
+    Reads reading (with_node named.name named.outline this) ⊎ (reading ≡ Err (record { line = load.line; refusal = Memory })) →
     IsRead (record { line = load.line; reading = reading }) (more_lines lines this)
-IsRead-ok load lines this titled reading is read step = record { line = read.line; reading = go read.reading step }
+IsRead-ok load lines this named reading is read step = record { line = read.line; reading = go read.reading step }
   where
     go : Reads load.reading (reading_of lines) ⊎ (load.reading ≡ Err (record { line = lines.head.number; refusal = Memory })) →
-        Reads reading (with_node titled.name titled.outline this) ⊎ (reading ≡ Err (record { line = load.line; refusal = Memory })) →
+        Reads reading (with_node named.name named.outline this) ⊎ (reading ≡ Err (record { line = load.line; refusal = Memory })) →
         Reads reading (reading_of (more_lines lines this)) ⊎ (reading ≡ Err (record { line = lines.head.number; refusal = Memory }))
     go (inr never) s = absurd (let e = sym is ∙ never in cc)
-    go (inl was) (inl s) = inl (reads-ok lines this titled reading (subst (λ r. Reads r (reading_of lines)) is was) s)
+    go (inl was) (inl s) = inl (reads-ok lines this named reading (subst (λ r. Reads r (reading_of lines)) is was) s)
     go (inl was) (inr m) = inr (m ∙ ap (λ k. Err (record { line = k; refusal = Memory })) read.line)
 
 pub IsRead-err : (load : Load) (lines : LoadLines) (this : NumberedLine) (fault : Fault) → load.reading ≡ Err fault → IsRead load lines →
@@ -99,10 +99,10 @@ IsRead-err load lines this fault is read = record { line = read.line; reading = 
 
 -- ---- the first line
 
-pub IsRead-untitled : (line : ℕ) (head : List ℕ) (refusal : Refusal) → ReadsTitle (Err refusal) head →
+pub IsRead-unnamed : (line : ℕ) (head : List ℕ) (refusal : Refusal) → ReadsName (Err refusal) head →
     IsRead (record { line = line; reading = Err (record { line = line; refusal = refusal }) }) (record { head = record { number = line; text = head }; nodes = [] })
-IsRead-untitled line head refusal (inl memory) = record { line = refl; reading = inr (ap (λ r. Err (record { line = line; refusal = r })) memory) }
-IsRead-untitled line head refusal (inr is) = record {
+IsRead-unnamed line head refusal (inl memory) = record { line = refl; reading = inr (ap (λ r. Err (record { line = line; refusal = r })) memory) }
+IsRead-unnamed line head refusal (inr is) = record {
   line = refl;
   reading = inl (ap (λ (r : Result (List ℕ) Refusal). at_line line r >>= λ (n : List ℕ). Ok (n, no_lines)) is);
 }
@@ -121,16 +121,16 @@ given-end lines end_line = chain-end (at_line lines.head.number (line_of lines.h
 
 -- what a load gives whose lines had no fault
 abbrev pub IsGivenAt : ℕ → ℕ → Result GivenDoc Fault → NamedOutline → Type 0
-IsGivenAt first end_line result titled =
-    Gives result (given_at titled.name titled.outline end_line) ⊎ (result ≡ Err (record { line = first; refusal = Memory }))
+IsGivenAt first end_line result named =
+    Gives result (given_at named.name named.outline end_line) ⊎ (result ≡ Err (record { line = first; refusal = Memory }))
 
-pub Gives-ok : (load : Load) (lines : LoadLines) (end_line : ℕ) (titled : NamedOutline) (result : Result GivenDoc Fault) → load.reading ≡ Ok titled → IsRead load lines →
-    Gives result (given_at titled.name titled.outline end_line) ⊎ (result ≡ Err (record { line = load.line; refusal = Memory })) →
+pub Gives-ok : (load : Load) (lines : LoadLines) (end_line : ℕ) (named : NamedOutline) (result : Result GivenDoc Fault) → load.reading ≡ Ok named → IsRead load lines →
+    Gives result (given_at named.name named.outline end_line) ⊎ (result ≡ Err (record { line = load.line; refusal = Memory })) →
     Gives result (given_within limits lines end_line) ⊎ (result ≡ Err (record { line = lines.head.number; refusal = Memory }))
-Gives-ok load lines end_line titled result is read step = go read.reading step
+Gives-ok load lines end_line named result is read step = go read.reading step
   where
     go : Reads load.reading (reading_of lines) ⊎ (load.reading ≡ Err (record { line = lines.head.number; refusal = Memory })) →
-        Gives result (given_at titled.name titled.outline end_line) ⊎ (result ≡ Err (record { line = load.line; refusal = Memory })) →
+        Gives result (given_at named.name named.outline end_line) ⊎ (result ≡ Err (record { line = load.line; refusal = Memory })) →
         Gives result (given_within limits lines end_line) ⊎ (result ≡ Err (record { line = lines.head.number; refusal = Memory }))
     go (inr never) s = absurd (let e = sym is ∙ never in cc)
     go (inl was) (inr m) = inr (m ∙ ap (λ k. Err (record { line = k; refusal = Memory })) read.line)
@@ -140,7 +140,7 @@ Gives-ok load lines end_line titled result is read step = go read.reading step
 -- the same fault, in place of another value
 abbrev same_fault : Result NamedOutline Fault → Result GivenDoc Fault
 same_fault (Err fault) = Err fault
-same_fault (Ok titled) = Err (record { line = 0; refusal = Memory })
+same_fault (Ok named) = Err (record { line = 0; refusal = Memory })
 
 pub Gives-err : (load : Load) (lines : LoadLines) (end_line : ℕ) (fault : Fault) → load.reading ≡ Err fault → IsRead load lines →
     Gives (Err fault) (given_within limits lines end_line) ⊎ is_memory_at {A = GivenDoc} lines (Err fault)

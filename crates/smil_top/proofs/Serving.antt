@@ -99,9 +99,13 @@ unbroken_by : (text line : List ℕ) (new : ReaderState) (after : Option (List �
 unbroken_by text line new after (inl starts) = inl starts.1
 unbroken_by text line new after (inr last) = inr (last.3, last.1.0)
 
-module _ (old new : ReaderState) (before rest after : Option (List ℕ)) (came : List ℕ) (answered : List (List ℕ)) (has : HasRead old before rest came answered) where
+-- a line that the reader shows, or one that is too long
+abbrev pub Hands : ReaderState → Line → Option (List ℕ) → Type 0
+Hands new answer text = ((answer ≡ Bytes) × (text ≡ Some new.line)) ⊎ ((answer ≡ LongLine) × (text ≡ None))
+
+module _ {old new : ReaderState} {before rest after : Option (List ℕ)} {came : List ℕ} {answered : List (List ℕ)} (has : HasRead old before rest came answered) where
   -- a line that the reader shows
-  pub next-bytes : Nexts old new Bytes rest after → (came' : List ℕ) × HasRead new before after came' (answered ++ new.line ∷ []) × IsLine (Some new.line) new.line × (new.number ≡ suc (cut_of answered).count)
+  next-bytes : Nexts old new Bytes rest after → (came' : List ℕ) × HasRead new before after came' (answered ++ new.line ∷ []) × IsLine (Some new.line) new.line × (new.number ≡ suc (cut_of answered).count)
   next-bytes (inr h) = cc
   next-bytes (inl (is_open, reads)) =
       let next = HasAnswered-next old new Bytes rest after came answered has.has is_open reads in
@@ -118,7 +122,7 @@ module _ (old new : ReaderState) (before rest after : Option (List ℕ)) (came :
       )
 
   -- a line that is too long
-  pub next-long : Nexts old new LongLine rest after → (came' : List ℕ) × (line : List ℕ) × HasRead new before after came' (answered ++ line ∷ []) × IsLine None line × (new.number ≡ suc (cut_of answered).count)
+  next-long : Nexts old new LongLine rest after → (came' : List ℕ) × (line : List ℕ) × HasRead new before after came' (answered ++ line ∷ []) × IsLine None line × (new.number ≡ suc (cut_of answered).count)
   next-long (inr h) = cc
   next-long (inl (is_open, reads)) =
       let next = HasAnswered-next old new LongLine rest after came answered has.has is_open reads in
@@ -136,10 +140,7 @@ module _ (old new : ReaderState) (before rest after : Option (List ℕ)) (came :
       )
 
   -- either line, as the reader shows it
-  abbrev pub Hands : Line → Option (List ℕ) → Type 0
-  Hands answer text = ((answer ≡ Bytes) × (text ≡ Some new.line)) ⊎ ((answer ≡ LongLine) × (text ≡ None))
-
-  pub next-line : (answer : Line) (text : Option (List ℕ)) → Nexts old new answer rest after → Hands answer text →
+  pub next-line : (answer : Line) (text : Option (List ℕ)) → Nexts old new answer rest after → Hands new answer text →
       (came' : List ℕ) × (line : List ℕ) × HasRead new before after came' (answered ++ line ∷ []) × IsLine text line × (new.number ≡ suc (cut_of answered).count)
   next-line answer text nexts (inl (shown, is)) =
       let n = next-bytes (subst (λ a. Nexts old new a rest after) shown nexts) in
@@ -149,7 +150,7 @@ module _ (old new : ReaderState) (before rest after : Option (List ℕ)) (came :
       (n.0, n.1, n.2, subst (λ o. IsLine o n.1) (sym is) n.3, n.4)
 
   -- the end of the input: these are all its lines
-  pub next-end : Nexts old new End rest after → (came' : List ℕ) × Consumes before after came' × IsAtEnd after × (lines came' ≡ answered) × (length came' ≤ INPUT_BYTES)
+  next-end : Nexts old new End rest after → (came' : List ℕ) × Consumes before after came' × IsAtEnd after × (lines came' ≡ answered) × (length came' ≤ INPUT_BYTES)
   next-end (inr (closed, is, same, stays)) =
       let lines_are : (lines came ≡ answered) × (length came ≤ INPUT_BYTES) = subst (λ e. AreLines e came old.pending answered) closed has.has.lines in
       let at_end : IsAtEnd rest = elim has.unbroken [ inl is_open ↦ cc | inr ended ↦ ended.1 ] in
@@ -166,7 +167,7 @@ module _ (old new : ReaderState) (before rest after : Option (List ℕ)) (came :
       )
 
   -- the limit is passed, or a read failed: these are the whole lines of what counts
-  pub next-too_long : Nexts old new InputTooLong rest after → (came' : List ℕ) × Consumes before after came' × (whole_lines (counted_bytes came') ≡ answered) × (INPUT_BYTES < length came')
+  next-too_long : Nexts old new InputTooLong rest after → (came' : List ℕ) × Consumes before after came' × (whole_lines (counted_bytes came') ≡ answered) × (INPUT_BYTES < length came')
   next-too_long (inr h) = cc
   next-too_long (inl (is_open, reads)) =
       let next = HasAnswered-next old new InputTooLong rest after came answered has.has is_open reads in
@@ -177,7 +178,7 @@ module _ (old new : ReaderState) (before rest after : Option (List ℕ)) (came :
         lines_are.1,
       )
 
-  pub next-fault : Nexts old new ReadFault rest after → (came' : List ℕ) × Consumes before after came' × (whole_lines (counted_bytes came') ≡ answered) × (length came' ≤ INPUT_BYTES)
+  next-fault : Nexts old new ReadFault rest after → (came' : List ℕ) × Consumes before after came' × (whole_lines (counted_bytes came') ≡ answered) × (length came' ≤ INPUT_BYTES)
   next-fault (inr h) = cc
   next-fault (inl (is_open, reads)) =
       let next = HasAnswered-next old new ReadFault rest after came answered has.has is_open reads in
@@ -259,127 +260,109 @@ RanCounted-untold {checks} {ended} {run} {before} {after} {taken_before} {taken_
   bounded = EvaluatesBy-of checks ended ran.came rise (λ runs. not_told ended (orders (lines ran.came)) rise not);
 }
 
-module _ (checks : Bool) (old new : ReaderState) (run after_run : Run) (before rest after taken_before taken taken_after : Option (List ℕ)) (room left left' : ℕ) (serving : IsServing checks old run before rest taken_before taken room left) where
-  abbrev cut : CutLines
-  cut = cut_of serving.answered
+module _ {checks : Bool} {old : ReaderState} {run : Run} {before rest taken_before taken : Option (List ℕ)} {room left : ℕ} (serving : IsServing checks old run before rest taken_before taken room left) where
+  -- a call that ends without another answer: all that was told is the transcript of the whole lines
+  stopped : {after : Option (List ℕ)} (ended : Status) (came : List ℕ) → Consumes before after came → RunsBy checks ended run after came serving.told.text room → Ran checks ended run before after taken_before taken room
+  stopped ended came read runs = record { came = came; text = serving.told.text; read = read; written = serving.writing.written.0; runs = runs }
 
-  -- the source has ended, and the load that hasn't is answered
-  ended-by : (came : List ℕ) (result : Result (Unit {0}) Failed) (ended : Status) → Consumes before after came → IsAtEnd after → (lines came ≡ serving.answered) → (length came ≤ INPUT_BYTES) →
-      (answers : AnswersOrders checks result after_run (cut.whole ++ unended cut.«open») serving.told taken taken_after left left') →
-      ended ≡ ended_by result answers.more → Ran checks ended after_run before after taken_before taken_after room
-  ended-by came (Ok done) ended read at_end lines_are within answers is =
-      let more : TranscriptState = answers.more in
-      let same_orders : cut.whole ++ unended cut.«open» ≡ orders (lines came) = ap orders (sym lines_are) in
-      let tells : Tells checks after_run (orders (lines came)) more = subst (λ os. Tells checks after_run os more) same_orders answers.tells in
-      let all : IsAll checks (status_of more) after_run came more.text = record { told = more; tells = tells; text_is = refl; ended_is = refl; within = within } in
-      record {
-        came = came;
-        text = more.text;
-        read = read;
-        written = (all-told serving.told more taken_before taken taken_after room left left' answers.goes serving.writing.written).0;
-        runs = subst (λ s. RunsBy checks s after_run after came more.text room) (sym is) (runs_all checks (nat_lt 0 more.refused) more.memory after_run after came more.text room at_end all);
-      }
-  ended-by came (Err e) ended read at_end lines_are within answers is =
-      let more : TranscriptState = answers.more in
-      let same_orders : cut.whole ++ unended cut.«open» ≡ orders (lines came) = ap orders (sym lines_are) in
-      let tells : Tells checks after_run (orders (lines came)) more = subst (λ os. Tells checks after_run os more) same_orders answers.tells in
-      let p = part-told e serving.told more taken_before taken taken_after room left left' answers.goes serving.writing.written in
-      let first : AreFirst (orders (lines came)) after came = inr (at_end, within, ([], sym (append-nil (orders (lines came))))) in
-      let broken : IsBroken (answering checks) after came p.0 room = (orders (lines came), more, first, tells.transcript, p.2) in
-      record {
-        came = came;
-        text = p.0;
-        read = read;
-        written = p.1;
-        runs = subst (λ s. RunsBy checks s after_run after came p.0 room) (sym is) broken;
-      }
-
-  pub Ran-end : (ended : Status) → Nexts old new End rest after →
-      ((checks : Bool) (cut : CutLines) (told : TranscriptState) → IsRunning checks run cut told → Ends checks ended after_run cut told taken taken_after left left') →
-      Ran checks ended after_run before after taken_before taken_after room
-  Ran-end ended nexts ends =
-      let e : Ends checks ended after_run cut serving.told taken taken_after left left' = ends checks cut serving.told serving.writing.running in
-      let n = next-end old new before rest after serving.came serving.answered serving.reading nexts in
-      ended-by n.0 e.result ended n.1 n.2 n.3 n.4 e.answers e.ended_is
-
-  -- these bytes came
-  ended-came : (came : List ℕ) (result : Result (Unit {0}) Failed) (ended : Status) (read : Consumes before after came) (at_end : IsAtEnd after) (lines_are : lines came ≡ serving.answered) (within : length came ≤ INPUT_BYTES)
-      (answers : AnswersOrders checks result after_run (cut.whole ++ unended cut.«open») serving.told taken taken_after left left') (is : ended ≡ ended_by result answers.more) →
-      (ended-by came result ended read at_end lines_are within answers is).came ≡ came
-  unfolding ended-by
-  ended-came came (Ok done) ended read at_end lines_are within answers is = refl
-  ended-came came (Err e) ended read at_end lines_are within answers is = refl
-
-  lines-came : (ended : Status) (nexts : Nexts old new End rest after)
-      (ends : (checks : Bool) (cut : CutLines) (told : TranscriptState) → IsRunning checks run cut told → Ends checks ended after_run cut told taken taken_after left left') →
-      lines (Ran-end ended nexts ends).came ≡ serving.answered
-  unfolding Ran-end
-  lines-came ended nexts ends =
-      let e : Ends checks ended after_run cut serving.told taken taken_after left left' = ends checks cut serving.told serving.writing.running in
-      let n = next-end old new before rest after serving.came serving.answered serving.reading nexts in
-      ap lines (ended-came n.0 e.result ended n.1 n.2 n.3 n.4 e.answers e.ended_is) ∙ n.3
-
-  -- with the evaluations of its orders
-  pub RanCounted-end : (ended : Status) → Nexts old new End rest after →
-      ((checks : Bool) (cut : CutLines) (told : TranscriptState) → IsRunning checks run cut told → Ends checks ended after_run cut told taken taken_after left left') →
-      (rise : ℕ) → (checks ≡ false → AreEvaluated ended (cut.whole ++ unended cut.«open») rise) → RanCounted checks ended after_run before after taken_before taken_after room rise
-  RanCounted-end ended nexts ends rise evaluated = record {
-    ran = Ran-end ended nexts ends;
-    bounded = EvaluatesBy-of checks ended (Ran-end ended nexts ends).came rise (λ runs. subst (λ zs. AreEvaluated ended (orders zs) rise) (sym (lines-came ended nexts ends)) (evaluated runs));
-  }
-
-  -- all that was told is the transcript of the whole lines
   cut-short : (came : List ℕ) → whole_lines (counted_bytes came) ≡ serving.answered → IsCutShort (answering checks) came serving.told.text
   cut-short came is = (serving.told, subst (λ zs. IsTranscriptBy (answering checks) (whole_orders zs) serving.told) (sym is) serving.writing.running.tells.transcript, refl)
 
   -- the input is too long
-  pub Ran-too_long : Nexts old new InputTooLong rest after → Ran checks status.InputTooLong run before after taken_before taken room
-  Ran-too_long nexts =
-      let n = next-too_long old new before rest after serving.came serving.answered serving.reading nexts in
-      record {
-        came = n.0;
-        text = serving.told.text;
-        read = n.1;
-        written = serving.writing.written.0;
-        runs = (n.3, cut-short n.0 n.2);
-      }
+  pub Ran-too_long : {new : ReaderState} {after : Option (List ℕ)} → Nexts old new InputTooLong rest after → Ran checks status.InputTooLong run before after taken_before taken room
+  Ran-too_long nexts = let n = next-too_long serving.reading nexts in stopped status.InputTooLong n.0 n.1 (n.3, cut-short n.0 n.2)
 
   -- a read failed
-  pub Ran-fault : Nexts old new ReadFault rest after → Ran checks status.ReadFault run before after taken_before taken room
-  Ran-fault nexts =
-      let n = next-fault old new before rest after serving.came serving.answered serving.reading nexts in
-      record {
-        came = n.0;
-        text = serving.told.text;
-        read = n.1;
-        written = serving.writing.written.0;
-        runs = (n.3, cut-short n.0 n.2);
-      }
+  pub Ran-fault : {new : ReaderState} {after : Option (List ℕ)} → Nexts old new ReadFault rest after → Ran checks status.ReadFault run before after taken_before taken room
+  Ran-fault nexts = let n = next-fault serving.reading nexts in stopped status.ReadFault n.0 n.1 (n.3, cut-short n.0 n.2)
+
+  abbrev cut : CutLines
+  cut = cut_of serving.answered
+
+  module _ {after_run : Run} {taken_after : Option (List ℕ)} {left' : ℕ} where
+    -- the source has ended, and the load that hasn't is answered
+    ended-by : {after : Option (List ℕ)} (came : List ℕ) (result : Result (Unit {0}) Failed) (ended : Status) → Consumes before after came → IsAtEnd after → (lines came ≡ serving.answered) → (length came ≤ INPUT_BYTES) →
+        (answers : AnswersOrders checks result after_run (cut.whole ++ unended cut.«open») serving.told taken taken_after left left') →
+        ended ≡ ended_by result answers.more → Ran checks ended after_run before after taken_before taken_after room
+    ended-by {after = after} came (Ok done) ended read at_end lines_are within answers is =
+        let more : TranscriptState = answers.more in
+        let same_orders : cut.whole ++ unended cut.«open» ≡ orders (lines came) = ap orders (sym lines_are) in
+        let tells : Tells checks after_run (orders (lines came)) more = subst (λ os. Tells checks after_run os more) same_orders answers.tells in
+        let all : IsAll checks (status_of more) after_run came more.text = record { told = more; tells = tells; text_is = refl; ended_is = refl; within = within } in
+        record {
+          came = came;
+          text = more.text;
+          read = read;
+          written = (all-told serving.told more taken_before taken taken_after room left left' answers.goes serving.writing.written).0;
+          runs = subst (λ s. RunsBy checks s after_run after came more.text room) (sym is) (runs_all checks (nat_lt 0 more.refused) more.memory after_run after came more.text room at_end all);
+        }
+    ended-by {after = after} came (Err e) ended read at_end lines_are within answers is =
+        let more : TranscriptState = answers.more in
+        let same_orders : cut.whole ++ unended cut.«open» ≡ orders (lines came) = ap orders (sym lines_are) in
+        let tells : Tells checks after_run (orders (lines came)) more = subst (λ os. Tells checks after_run os more) same_orders answers.tells in
+        let p = part-told e serving.told more taken_before taken taken_after room left left' answers.goes serving.writing.written in
+        let first : AreFirst (orders (lines came)) after came = inr (at_end, within, ([], sym (append-nil (orders (lines came))))) in
+        let broken : IsBroken (answering checks) after came p.0 room = (orders (lines came), more, first, tells.transcript, p.2) in
+        record {
+          came = came;
+          text = p.0;
+          read = read;
+          written = p.1;
+          runs = subst (λ s. RunsBy checks s after_run after came p.0 room) (sym is) broken;
+        }
+
+    pub Ran-end : {new : ReaderState} {after : Option (List ℕ)} (ended : Status) → Nexts old new End rest after →
+        ((checks : Bool) (cut : CutLines) (told : TranscriptState) → IsRunning checks run cut told → Ends checks ended after_run cut told taken taken_after left left') →
+        Ran checks ended after_run before after taken_before taken_after room
+    Ran-end ended nexts ends =
+        let e : Ends checks ended after_run cut serving.told taken taken_after left left' = ends checks cut serving.told serving.writing.running in
+        let n = next-end serving.reading nexts in
+        ended-by n.0 e.result ended n.1 n.2 n.3 n.4 e.answers e.ended_is
+
+    -- these bytes came
+    ended-came : (after : Option (List ℕ)) (came : List ℕ) (result : Result (Unit {0}) Failed) (ended : Status) (read : Consumes before after came) (at_end : IsAtEnd after) (lines_are : lines came ≡ serving.answered) (within : length came ≤ INPUT_BYTES)
+        (answers : AnswersOrders checks result after_run (cut.whole ++ unended cut.«open») serving.told taken taken_after left left') (is : ended ≡ ended_by result answers.more) →
+        (ended-by {after = after} came result ended read at_end lines_are within answers is).came ≡ came
+    unfolding ended-by
+    ended-came after came (Ok done) ended read at_end lines_are within answers is = refl
+    ended-came after came (Err e) ended read at_end lines_are within answers is = refl
+
+    lines-came : {new : ReaderState} {after : Option (List ℕ)} (ended : Status) (nexts : Nexts old new End rest after)
+        (ends : (checks : Bool) (cut : CutLines) (told : TranscriptState) → IsRunning checks run cut told → Ends checks ended after_run cut told taken taken_after left left') →
+        lines (Ran-end ended nexts ends).came ≡ serving.answered
+    unfolding Ran-end
+    lines-came ended nexts ends =
+        let e : Ends checks ended after_run cut serving.told taken taken_after left left' = ends checks cut serving.told serving.writing.running in
+        let n = next-end serving.reading nexts in
+        ap lines (ended-came _ n.0 e.result ended n.1 n.2 n.3 n.4 e.answers e.ended_is) ∙ n.3
+
+    -- with the evaluations of its orders
+    pub RanCounted-end : {new : ReaderState} {after : Option (List ℕ)} (ended : Status) → Nexts old new End rest after →
+        ((checks : Bool) (cut : CutLines) (told : TranscriptState) → IsRunning checks run cut told → Ends checks ended after_run cut told taken taken_after left left') →
+        (rise : ℕ) → (checks ≡ false → AreEvaluated ended (cut.whole ++ unended cut.«open») rise) → RanCounted checks ended after_run before after taken_before taken_after room rise
+    RanCounted-end ended nexts ends rise evaluated = record {
+      ran = Ran-end ended nexts ends;
+      bounded = EvaluatesBy-of checks ended (Ran-end ended nexts ends).came rise (λ runs. subst (λ zs. AreEvaluated ended (orders zs) rise) (sym (lines-came ended nexts ends)) (evaluated runs));
+    }
 
 -- a line was read behind those answered, and the session went on
-module _ (checks : Bool) (new : ReaderState) (run : Run) (before after taken_before taken taken_after : Option (List ℕ)) (room left left' : ℕ) (came line : List ℕ) (told : TranscriptState) (answered : List (List ℕ))
+module _ {checks : Bool} {new : ReaderState} {run : Run} {before after taken taken_after : Option (List ℕ)} {room left left' : ℕ} {came : List ℕ} {told : TranscriptState} (taken_before : Option (List ℕ)) (answered : List (List ℕ)) (line : List ℕ)
     (has : HasRead new before after came (answered ++ line ∷ [])) (said : WritesAll taken_before taken room left told.text) where
-  abbrev Goes_on : Result (Unit {0}) Failed → Type 0
-  Goes_on r = Answers checks r run (with_line (cut_of answered) line) told taken taken_after left left'
-
-  running_now : (r : Result (Unit {0}) Failed) (answers : Goes_on r) → IsRunning checks run (cut_of (answered ++ line ∷ [])) answers.more
-  running_now r answers = subst (λ (c : CutLines). IsRunning checks run c answers.more) (sym (cut_of-one_more answered line)) answers.running
-
   -- its answer was written
-  pub Wrote-next : (r : Result (Unit {0}) Failed) → is_err r ≡ false → Goes_on r → Wrote checks run taken_before taken_after room left' (answered ++ line ∷ [])
+  pub Wrote-next : (r : Result (Unit {0}) Failed) → is_err r ≡ false → Answers checks r run (with_line (cut_of answered) line) told taken taken_after left left' → Wrote checks run taken_before taken_after room left' (answered ++ line ∷ [])
   Wrote-next (Ok done) went answers = (
     answers.more,
-    record { running = running_now (Ok done) answers; written = all-told told answers.more taken_before taken taken_after room left left' answers.goes said },
+    record { running = subst (λ (c : CutLines). IsRunning checks run c answers.more) (sym (cut_of-one_more answered line)) answers.running; written = all-told told answers.more taken_before taken taken_after room left left' answers.goes said },
   )
   Wrote-next (Err e) went answers = absurd cc
 
   -- writing it failed
-  pub Ran-unwritten : (r : Result (Unit {0}) Failed) → is_err r ≡ true → Goes_on r → Ran checks status.WriteFault run before after taken_before taken_after room
+  pub Ran-unwritten : (r : Result (Unit {0}) Failed) → is_err r ≡ true → Answers checks r run (with_line (cut_of answered) line) told taken taken_after left left' → Ran checks status.WriteFault run before after taken_before taken_after room
   Ran-unwritten (Ok done) failed answers = absurd cc
   Ran-unwritten (Err e) failed answers =
       let p = part-told e told answers.more taken_before taken taken_after room left left' answers.goes said in
       let these : List (List ℕ) = answered ++ line ∷ [] in
-      let running = running_now (Err e) answers in
+      let running = subst (λ (c : CutLines). IsRunning checks run c answers.more) (sym (cut_of-one_more answered line)) answers.running in
       record {
         came = came;
         text = p.0;
@@ -387,9 +370,6 @@ module _ (checks : Bool) (new : ReaderState) (run : Run) (before after taken_bef
         written = p.1;
         runs = ((cut_of these).whole, answers.more, orders-read new before after came these has, running.tells.transcript, p.2);
       }
-
-pub IsReading-fresh : (rest : Option (List ℕ)) → IsReading fresh_reading rest rest
-IsReading-fresh rest = record { came = []; answered = []; has = HasRead-fresh rest }
 
 pub Wrote-fresh : (checks : Bool) (run : Run) (taken : Option (List ℕ)) (room : ℕ) → IsRunning checks run (cut_of []) untold → Wrote checks run taken taken room room []
 Wrote-fresh checks run taken room running = (untold, record { running = running; written = (Appends-nil taken, omega arith) })

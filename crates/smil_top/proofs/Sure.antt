@@ -21,7 +21,7 @@ use Rattle.smil_grammar.specs.Results.{◌>>=◌}
 use Rattle.smil_grammar.specs.Texts.{trim, behind, point}
 use Rattle.smil_grammar.specs.Items.{of_element, subject_of, is_left_out, is_keyed, key_of, named_of, item_of}
 use Rattle.smil_grammar.specs.Words.{id_len}
-use Rattle.smil_grammar.specs.Lists.{item_at, piece_at, items_from, pieces_of, few_items, list_of}
+use Rattle.smil_grammar.specs.Lists.{item_at, piece_at, items_from, item_pieces, few_items, list_of}
 use Rattle.smil_grammar.specs.Values.{of_list, of_value, plain_value_of, value_of}
 use Rattle.smil_grammar.specs.Attributes.{attr_name_of, name_or, is_other_name}
 use Rattle.smil_grammar.specs.Nodes.{WrittenAttr, Shape, at_column, attribute_of, attr_of, attrs_from, attrs_of, kind_or, kind_of_shape, kind_of, node_of, shape_of}
@@ -99,7 +99,7 @@ items_sure first place (piece ∷ pieces) =
     (λ item. onward list_lacks (items_from first (place + length piece + 1) pieces) _ (items_sure first (place + length piece + 1) pieces) (λ items. made list_lacks (item ∷ items)))
 
 few_sure : (first : Option ℕ) (text : List ℕ) → Sure list_lacks (few_items first text)
-few_sure first text = either list_lacks (nat_lt ITEMS (length (pieces_of text))) _ _ (refused list_lacks list.TooManyItems refl) (items_sure first 0 (pieces_of text))
+few_sure first text = either list_lacks (nat_lt ITEMS (length (item_pieces text))) _ _ (refused list_lacks list.TooManyItems refl) (items_sure first 0 (item_pieces text))
 
 list_sure : (in_seq : Bool) (text : List ℕ) → Sure list_lacks (list_of in_seq text)
 list_sure false text = few_sure None text

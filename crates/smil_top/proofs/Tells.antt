@@ -109,13 +109,13 @@ told-more checks run new whole told order (Err fault) text tells made same count
 )
 
 -- the same, where its text was written, and what is kept stayed meanwhile
-pub told-order : (checks : Bool) (run new : Run) (kept : KeptSession) (whole : List OrderLines) (told : TranscriptState) (order : OrderLines) (answered : Result (Unit {0}) Fault) (text : AnswerText)
-    (result : Result (Unit {0}) Failed) (before after : Option (List ℕ)) (room left : ℕ) →
+pub told-order : {checks : Bool} {run new : Run} {whole : List OrderLines} {told : TranscriptState} {result : Result (Unit {0}) Failed} {before after : Option (List ℕ)} {room left : ℕ}
+    (kept : KeptSession) (order : OrderLines) (answered : Result (Unit {0}) Fault) (text : AnswerText) →
     Tells checks run whole told → MakesAnswer answered text kept.house told.session (answering checks) order →
     new.session ≡ kept → kept.checks ≡ run.session.checks → new.counts ≡ with_order answered (min (line_count (said answered text)) last_count) run.counts →
     Writes result before after room left (said answered text) →
     AnswersOrders checks result new (whole ++ order ∷ []) told before after room left
-told-order checks run new kept whole told order answered text result before after room left tells made is same counts writes =
+told-order {checks} {run} {new} {whole} {told} kept order answered text tells made is same counts writes =
     let at_end : MakesAnswer answered text new.session.house told.session (answering checks) order =
     subst (λ (s : KeptSession). MakesAnswer answered text s.house told.session (answering checks) order) (sym is) made
     in
@@ -230,10 +230,10 @@ no_load-of at lines stands is = open-none lines (subst (λ o. IsOpen o lines) is
 -- ---- a line
 
 -- an order was whole with this line, and was answered
-pub running-order : (checks : Bool) (result : Result (Unit {0}) Failed) (run : Run) (cut : CutLines) (count : ℕ) (whole : List OrderLines) (told : TranscriptState) (before after : Option (List ℕ)) (room left : ℕ) →
+pub running-order : {checks : Bool} {result : Result (Unit {0}) Failed} {run : Run} {cut : CutLines} {count : ℕ} {whole : List OrderLines} {told : TranscriptState} {before after : Option (List ℕ)} {room left : ℕ} →
     cut ≡ record { count = count; whole = whole; «open» = None } → run.load ≡ None →
     AnswersOrders checks result run whole told before after room left → Answers checks result run cut told before after room left
-running-order checks result run cut count whole told before after room left is no_load answers = record {
+running-order {checks} {run = run} is no_load answers = record {
   more = answers.more;
   goes = answers.goes;
   running = subst (λ (c : CutLines). IsRunning checks run c answers.more) (sym is) (record { tells = answers.tells; load = subst (λ o. IsOpen o None) (sym no_load) tt });
@@ -244,22 +244,14 @@ pub Goes-nothing : (told : TranscriptState) (before : Option (List ℕ)) (room :
 Goes-nothing told before room nothing = record { text = []; text_is = sym (append-nil told.text); writes = nothing }
 
 -- nothing is told, and a load hasn't ended
-pub running-load : (checks : Bool) (run : Run) (load : Load) (cut : CutLines) (count : ℕ) (whole : List OrderLines) (lines : LoadLines) (told : TranscriptState) (before : Option (List ℕ)) (room : ℕ) →
+pub running-load : {checks : Bool} {run : Run} {load : Load} {cut : CutLines} {count : ℕ} {whole : List OrderLines} {lines : LoadLines} {told : TranscriptState} {before : Option (List ℕ)} {room : ℕ} →
     cut ≡ record { count = count; whole = whole; «open» = Some lines } → run.load ≡ Some load → IsRead load lines → Tells checks run whole told →
     WritesAll before before room room [] → Answers checks (Ok tt) run cut told before before room room
-running-load checks run load cut count whole lines told before room is loaded read tells nothing = record {
+running-load {checks} {run} {lines = lines} {told = told} {before = before} {room = room} is loaded read tells nothing = record {
   more = told;
   goes = Goes-nothing told before room nothing;
   running = subst (λ (c : CutLines). IsRunning checks run c told) (sym is) (record { tells = tells; load = subst (λ o. IsOpen o (Some lines)) (sym loaded) read });
 }
-
--- nothing is told, and each load has ended
-pub running-silent : (checks : Bool) (run : Run) (cut : CutLines) (count : ℕ) (whole : List OrderLines) (told : TranscriptState) (before : Option (List ℕ)) (room : ℕ) →
-    cut ≡ record { count = count; whole = whole; «open» = None } → run.load ≡ None → Tells checks run whole told →
-    WritesAll before before room room [] → Answers checks (Ok tt) run cut told before before room room
-running-silent checks run cut count whole told before room is no_load tells nothing =
-    running-order checks (Ok tt) run cut count whole told before before room room is no_load
-    (record { more = told; goes = Goes-nothing told before room nothing; tells = tells })
 
 -- what is told stays where the run differs in its load alone
 pub tells-on : (checks : Bool) (run new : Run) (whole : List OrderLines) (told : TranscriptState) → new.session ≡ run.session → new.counts ≡ run.counts →

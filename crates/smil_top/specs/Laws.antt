@@ -9,7 +9,7 @@ use Rattle.smil_model.specs.shown.Lines.{refusal_line, line_of as text_line}
 use Rattle.smil_outside.specs.Lines.{whole_lines}
 use Rattle.smil_grammar.specs.declared.read.Read.{Read}
 use Rattle.smil_grammar.specs.declared.read.Read.TheVariants.{Load, Close}
-use Rattle.smil_grammar.specs.Scripts.{first_of, is_title, line_of}
+use Rattle.smil_grammar.specs.Scripts.{first_of, is_presentation_name, line_of}
 use Rattle.smil_laws.specs.Migration.{AreBelow, is_for_limit}
 use Rattle.smil_top.specs.declared.fault.Fault.{Fault}
 use Rattle.smil_top.specs.Cut.{NumberedLine, OrderLines, single, load, first_line, whole_orders, orders}
@@ -256,7 +256,7 @@ is_too_many _ = false
 -- an order is of one presentation's name at most
 abbrev pub IsOfOneName : Type 0
 IsOfOneName =
-    (name other : List ℕ) (order : OrderLines) → is_title name ≡ true → is_title other ≡ true
+    (name other : List ℕ) (order : OrderLines) → is_presentation_name name ≡ true → is_presentation_name other ≡ true
     → is_of name order ≡ true → is_of other order ≡ true
     → name ≡ other
 
@@ -290,7 +290,7 @@ pub record IsOwn
 abbrev pub AnswersAreOwn : Type 0
 AnswersAreOwn =
     (allowed : Limits) (name : List ℕ) (session : Session) (order : OrderLines)
-    → is_title name ≡ true
+    → is_presentation_name name ≡ true
     → is_of name order ≡ true
     → refuses_as is_too_many (heard (answer_within allowed session order)) ≡ false
     → IsOwn allowed name session order
@@ -320,7 +320,7 @@ pub record IsAlone
 -- for each presentation's name, within any limits
 abbrev pub NamesAreIsolated : Type 0
 NamesAreIsolated =
-    (allowed : Limits) (name : List ℕ) (tried : List OrderAttempt) → is_title name ≡ true
+    (allowed : Limits) (name : List ℕ) (tried : List OrderAttempt) → is_presentation_name name ≡ true
     → any_refused_as is_too_many (answered_by (answer_within allowed) tried) ≡ false
     → IsAlone (answer_within allowed) name tried
 
@@ -340,7 +340,7 @@ pub record IsAloneInInput
 -- where memory suffices, and no order of the whole input is refused since too many are held
 abbrev pub InputsAreIsolated : Type 0
 InputsAreIsolated =
-    (allowed : Limits) (name : List ℕ) (lines : List (List ℕ)) → is_title name ≡ true
+    (allowed : Limits) (name : List ℕ) (lines : List (List ℕ)) → is_presentation_name name ≡ true
     → any_refused_as is_too_many
     (answered_by (answer_within allowed) (map with_ease (orders lines))) ≡ false
     → IsAloneInInput (answer_within allowed) name lines

@@ -8,7 +8,7 @@ use Rattle.smil_model.specs.declared.limits.TheConstants.{LINE_BYTES, NAME_BYTES
 use Rattle.smil_model.specs.declared.order.Refusal.{Refusal}
 use Rattle.smil_model.specs.declared.order.Refusal.TheVariants.{Memory}
 use Rattle.smil_model.specs.document.Limits.{limits}
-use Rattle.smil_model.specs.shown.Answers.{MayEvaluate}
+use Rattle.smil_model.specs.shown.Answers.{IsRefusedBy, MayEvaluate}
 use Rattle.smil_model.specs.shown.Lines.{refusal_line}
 use Rattle.smil_outside.specs.declared.failed.Failed.{Failed}
 use Rattle.smil_outside.specs.Faults.{last_count}
@@ -67,7 +67,7 @@ Makes (Ok done) text house session wanted =
     (after : Session) × Holds house after
     × (wanted ≡ Ok (record { text = text_of text; session = after }))
 Makes (Err refusal) text house session wanted =
-    Holds house session × ((refusal ≡ Memory) ⊎ (wanted ≡ Err refusal))
+    Holds house session × IsRefusedBy wanted refusal
 
 -- the same of a whole order
 abbrev pub MakesAnswer : Result (Unit {0}) Fault → AnswerText → Presentations → Session → Answering
@@ -105,11 +105,11 @@ Checks (Err refusal) text line given = refusal ≡ Memory
 -- ---- single lines
 
 -- a presentation's name is short
-abbrev pub HoldsTitle : Read → Type 0
-HoldsTitle (Load name) = length name ≤ NAME_BYTES
-HoldsTitle (Close name) = length name ≤ NAME_BYTES
-HoldsTitle (To name order) = length name ≤ NAME_BYTES
-HoldsTitle Blank = Unit {0}
+abbrev pub HasShortName : Read → Type 0
+HasShortName (Load name) = length name ≤ NAME_BYTES
+HasShortName (Close name) = length name ≤ NAME_BYTES
+HasShortName (To name order) = length name ≤ NAME_BYTES
+HasShortName Blank = Unit {0}
 
 -- ---- loads
 
@@ -128,7 +128,7 @@ reading_of lines = do
 
 -- what was read is this
 abbrev pub Reads : Result NamedOutline Fault → Result (List ℕ × Outline) Fault → Type 0
-Reads (Ok titled) wanted = wanted ≡ Ok (titled.name, titled.outline)
+Reads (Ok named) wanted = wanted ≡ Ok (named.name, named.outline)
 Reads (Err fault) wanted = wanted ≡ Err fault
 
 -- a load that was read so far, or for which memory ran out
@@ -139,10 +139,10 @@ pub record IsRead (load : LoadSoFar) (lines : LoadLines) : Type 0 where
       ⊎ (load.reading ≡ Err (record { line = lines.head.number; refusal = Memory }))
 
 -- the name of a load line, before the first node
-abbrev pub ReadsTitle : Result NamedOutline Refusal → List ℕ → Type 0
-ReadsTitle (Ok titled) head =
-    (line_of head >>= name_of ≡ Ok titled.name) × (titled.outline ≡ no_lines)
-ReadsTitle (Err refusal) head = (refusal ≡ Memory) ⊎ (line_of head >>= name_of ≡ Err refusal)
+abbrev pub ReadsName : Result NamedOutline Refusal → List ℕ → Type 0
+ReadsName (Ok named) head =
+    (line_of head >>= name_of ≡ Ok named.name) × (named.outline ≡ no_lines)
+ReadsName (Err refusal) head = IsRefusedBy (line_of head >>= name_of) refusal
 
 -- what a load gives
 abbrev pub given_of : GivenDoc → LoadedDocument

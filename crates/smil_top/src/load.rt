@@ -5,7 +5,7 @@ ghost use Rattle.smil_model.specs.document.Limits.{limits};
 ghost use Rattle.smil_model.specs.document.Valid.{IsValid};
 ghost use Rattle.smil_top.specs.Cut.{LoadLines};
 ghost use Rattle.smil_top.specs.Answers.{given_within};
-ghost use Rattle.smil_top.specs.Running.{Gives, IsRead, IsLine, Reads, ReadsTitle, given_at, with_node};
+ghost use Rattle.smil_top.specs.Running.{Gives, IsRead, IsLine, Reads, ReadsName, given_at, with_node};
 
 use super::fault::Fault;
 use super::loaded::{LoadedDoc, NamedOutline};
@@ -30,8 +30,8 @@ impl Load {
         ensures { IsRead result (record
             { head = record { number = line; text = head.now }; nodes = [] }) }
     {
-        let reading = match read_title(alloc, head) {
-            Ok(titled) => Ok(titled),
+        let reading = match read_name(alloc, head) {
+            Ok(named) => Ok(named),
             Err(refusal) => Err(Fault { line, refusal }),
         };
         Load { line, reading }
@@ -66,16 +66,16 @@ impl Load {
     {
         let first = self.line;
         match self.reading {
-            Ok(titled) => end_outline(titled, first, end_line),
+            Ok(named) => end_outline(named, first, end_line),
             Err(fault) => Err(fault),
         }
     }
 }
 
 // The name that a load line gives, and an outline without a node.
-fn read_title(alloc: Global, head: &[u8]) -> Result<NamedOutline, Refusal>
+fn read_name(alloc: Global, head: &[u8]) -> Result<NamedOutline, Refusal>
     requires { length head.now ≤ LINE_BYTES }
-    ensures { ReadsTitle result head.now }
+    ensures { ReadsName result head.now }
 {
     match read_line(alloc, head) {
         Ok(Read::Load { name }) => {
@@ -115,12 +115,12 @@ fn push_node(
 }
 
 // The document of an outline whose load begins and ends at these lines.
-fn end_outline(titled: NamedOutline, first: u32, end_line: u32) -> Result<LoadedDoc, Fault>
+fn end_outline(named: NamedOutline, first: u32, end_line: u32) -> Result<LoadedDoc, Fault>
     ensures valid { IfOk result (λ given. IsValid given.doc) }
-    ensures given { Gives result (given_at titled.name titled.outline end_line)
+    ensures given { Gives result (given_at named.name named.outline end_line)
         ⊎ (result ≡ Err (record { line = first; refusal = Refusal.Memory })) }
 {
-    let NamedOutline { name, outline } = titled;
+    let NamedOutline { name, outline } = named;
     let version = outline.version();
     match outline.finish() {
         Ok(doc) => Ok(LoadedDoc { name, doc, version }),

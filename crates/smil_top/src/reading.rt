@@ -81,7 +81,8 @@ impl Run {
 // Answers a load that hasn't ended, and gives the status.
 fn end<K: Sink>(run: &mut Run, sink: &mut K) -> Status
     ensures ends { (checks : Bool) (cut : CutLines) (told : TranscriptState)
-        → IsRunning checks run.old cut told → Ends checks result run.new cut told (K.taken sink.old) (K.taken sink.new)
+        → IsRunning checks run.old cut told
+        → Ends checks result run.new cut told (K.taken sink.old) (K.taken sink.new)
         (K.sure_room sink.old) (K.sure_room sink.new) }
     ensures cause { result ≡ Status.WriteFault → HasRisen (K.faults sink.old) (K.faults sink.new) }
     ensures count { K.faults sink.old ≤ K.faults sink.new }

@@ -10,7 +10,7 @@ ghost use Rattle.smil_top.specs.Session.{Session as Presentations};
 ghost use Rattle.smil_top.specs.Answers.{checked, close_answer, loaded_within, ordered_within};
 ghost use Rattle.smil_top.specs.Evaluations.{Bound, line_number, loaded_number, ordered_number, said_number};
 ghost use Rattle.smil_top.specs.Houses.{Holds};
-ghost use Rattle.smil_top.specs.Running.{given_of, line_by, load_by, no_text, single_by, Checks, HoldsTitle, IsCounted, Makes};
+ghost use Rattle.smil_top.specs.Running.{given_of, line_by, load_by, no_text, single_by, Checks, HasShortName, IsCounted, Makes};
 
 use super::answer::Answer;
 use super::last_line::LastLine;
@@ -87,7 +87,7 @@ impl Session {
         steps: &mut Steps<L>,
     ) -> Result<(), Refusal>
         requires given { HoldsGiven read.now }
-        requires title { HoldsTitle read.now }
+        requires name { HasShortName read.now }
         requires empty { answer.old ≡ no_text }
         ensures answer { (session : Presentations) → Holds self.old.house session
             → Makes result answer.new self.new.house session
@@ -122,7 +122,7 @@ impl Session {
         steps: &mut Steps<L>,
     ) -> Result<(), Refusal>
         requires given { IsGiven named.now.order.now }
-        requires title { length named.now.name.now ≤ NAME_BYTES }
+        requires name { length named.now.name.now ≤ NAME_BYTES }
         requires empty { answer.old ≡ no_text }
         ensures answer { (session : Presentations) → Holds self.old.house session
             → Makes result answer.new self.new.house session
@@ -144,7 +144,7 @@ impl Session {
 
     // Closes the presentation of this name.
     fn close(&mut self, number: u32, name: &Bytes, answer: &mut Answer) -> Result<(), Refusal>
-        requires title { length name.now ≤ NAME_BYTES }
+        requires name { length name.now ≤ NAME_BYTES }
         requires empty { answer.old ≡ no_text }
         ensures answer { (session : Presentations) → Holds self.old.house session
             → Makes result answer.new self.new.house session

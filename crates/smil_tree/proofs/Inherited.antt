@@ -14,9 +14,9 @@ use Rattle.smil_model.specs.declared.document.Fill.TheVariants as fill
 use Rattle.smil_model.specs.declared.document.FillDefault.{FillDefault}
 use Rattle.smil_model.specs.declared.document.FillDefault.TheVariants as fill_default
 use Rattle.smil_model.specs.document.Document.{node_at, lineage, is_element}
-use Rattle.smil_model.specs.document.Defaults.{first_stated, restart_of, restart_or, restart_stated, fill_of, fill_or, fill_stated}
+use Rattle.smil_model.specs.document.Defaults.{first_stated, inherited, default_restart, default_fill, restart_of, restart_or, restart_stated, fill_of, fill_or, fill_stated}
 use Rattle.smil_laws.specs.Edited.{IsOrdered}
-use Rattle.smil_tree.specs.Inherited.{stated_from, restart_from, fill_from, own_restart, own_fill}
+use Rattle.smil_tree.specs.Inherited.{own_restart, own_fill}
 use Rattle.smil_laws.proofs.Aside.{find_true}
 use Rattle.smil_tree.proofs.Families.{chain_of, no_chain}
 
@@ -26,22 +26,22 @@ own stated n = cond (is_element n) (stated n) None
 
 module _ {A : Type 0} (stated : Node → Option A) (without : A) (nodes : List Node) where
   -- what stands above a missing node states nothing
-  pub from_none : (s : ℕ) → node_at nodes s ≡ None → stated_from stated without nodes s ≡ without
+  pub from_none : (s : ℕ) → node_at nodes s ≡ None → inherited nodes stated without s ≡ without
   from_none s q = ap (λ l. first_stated stated without (filter is_element l)) (no_chain nodes s q)
 
   -- a node states it, or its parent's lineage does
-  pub from_node : IsOrdered nodes → (s : ℕ) (n : Node) → node_at nodes s ≡ Some n → stated_from stated without nodes s ≡ unwrap_or (own stated n) (stated_from stated without nodes n.parent)
+  pub from_node : IsOrdered nodes → (s : ℕ) (n : Node) → node_at nodes s ≡ Some n → inherited nodes stated without s ≡ unwrap_or (own stated n) (inherited nodes stated without n.parent)
   from_node o s n at = ap (λ l. first_stated stated without (filter is_element l)) (chain_of nodes o s n at) ∙ step (is_element n)
     where
-      step : (t : Bool) → first_stated stated without (cond t (n ∷ filter is_element (lineage nodes n.parent)) (filter is_element (lineage nodes n.parent))) ≡ unwrap_or (cond t (stated n) None) (stated_from stated without nodes n.parent)
+      step : (t : Bool) → first_stated stated without (cond t (n ∷ filter is_element (lineage nodes n.parent)) (filter is_element (lineage nodes n.parent))) ≡ unwrap_or (cond t (stated n) None) (inherited nodes stated without n.parent)
       step true = refl
       step false = refl
 
-  pub here : IsOrdered nodes → (s : ℕ) (n : Node) → node_at nodes s ≡ Some n → (v : A) → own stated n ≡ Some v → v ≡ stated_from stated without nodes s
-  here o s n at v q = sym (from_node o s n at ∙ ap (λ r. unwrap_or r (stated_from stated without nodes n.parent)) q)
+  pub here : IsOrdered nodes → (s : ℕ) (n : Node) → node_at nodes s ≡ Some n → (v : A) → own stated n ≡ Some v → v ≡ inherited nodes stated without s
+  here o s n at v q = sym (from_node o s n at ∙ ap (λ r. unwrap_or r (inherited nodes stated without n.parent)) q)
 
-  pub above : IsOrdered nodes → (s : ℕ) (n : Node) → node_at nodes s ≡ Some n → own stated n ≡ None → stated_from stated without nodes n.parent ≡ stated_from stated without nodes s
-  above o s n at q = sym (from_node o s n at ∙ ap (λ r. unwrap_or r (stated_from stated without nodes n.parent)) q)
+  pub above : IsOrdered nodes → (s : ℕ) (n : Node) → node_at nodes s ≡ Some n → own stated n ≡ None → inherited nodes stated without n.parent ≡ inherited nodes stated without s
+  above o s n at q = sym (from_node o s n at ∙ ap (λ r. unwrap_or r (inherited nodes stated without n.parent)) q)
 
 pub none_left : {A : Type 0} (r : Option A) → ((x : A) → r ≡ Some x → ⊥) → r ≡ None
 none_left None never = refl
@@ -84,7 +84,7 @@ no_default_restart (Some restart_default.WhenNotActive) q = cc
 no_default_restart (Some restart_default.Never) q = cc
 no_default_restart (Some restart_default.Inherit) q = cc
 
-pub restart_given : (nodes : List Node) (s : ℕ) → restart_from nodes s ≡ restart.ByDefault → ⊥
+pub restart_given : (nodes : List Node) (s : ℕ) → default_restart nodes s ≡ restart.ByDefault → ⊥
 restart_given nodes s = never_first restart.ByDefault restart_by Always (λ q. cc) (λ n. no_default_restart n.attrs.restart_default) (filter is_element (lineage nodes s))
 
 restart_split : (r : Restart) (o : Option Restart) → restart_or r o ≡ unwrap_or (own_restart o) r
@@ -94,8 +94,8 @@ restart_split r (Some restart.Always) = refl
 restart_split r (Some restart.WhenNotActive) = refl
 restart_split r (Some restart.Never) = refl
 
-pub restart_inherits : Inherits (λ n. own_restart n.attrs.restart) restart_from restart_of
-restart_inherits = record { split = λ nodes n. restart_split (restart_from nodes n.serial) n.attrs.restart }
+pub restart_inherits : Inherits (λ n. own_restart n.attrs.restart) default_restart restart_of
+restart_inherits = record { split = λ nodes n. restart_split (default_restart nodes n.serial) n.attrs.restart }
 
 pub own_restart_given : (o : Option Restart) → own_restart o ≡ Some restart.ByDefault → ⊥
 own_restart_given None e = cc
@@ -117,7 +117,7 @@ no_default_fill (Some fill_default.Hold) q = cc
 no_default_fill (Some fill_default.Auto) q = cc
 no_default_fill (Some fill_default.Inherit) q = cc
 
-pub fill_given : (nodes : List Node) (s : ℕ) → fill_from nodes s ≡ fill.ByDefault → ⊥
+pub fill_given : (nodes : List Node) (s : ℕ) → default_fill nodes s ≡ fill.ByDefault → ⊥
 fill_given nodes s = never_first fill.ByDefault fill_by Auto (λ q. cc) (λ n. no_default_fill n.attrs.fill_default) (filter is_element (lineage nodes s))
 
 fill_split : (f : Fill) (o : Option Fill) → fill_or f o ≡ unwrap_or (own_fill o) f
@@ -128,8 +128,8 @@ fill_split f (Some fill.Freeze) = refl
 fill_split f (Some fill.Hold) = refl
 fill_split f (Some fill.Auto) = refl
 
-pub fill_inherits : Inherits (λ n. own_fill n.attrs.fill) fill_from fill_of
-fill_inherits = record { split = λ nodes n. fill_split (fill_from nodes n.serial) n.attrs.fill }
+pub fill_inherits : Inherits (λ n. own_fill n.attrs.fill) default_fill fill_of
+fill_inherits = record { split = λ nodes n. fill_split (default_fill nodes n.serial) n.attrs.fill }
 
 pub own_fill_given : (o : Option Fill) → own_fill o ≡ Some fill.ByDefault → ⊥
 own_fill_given None e = cc

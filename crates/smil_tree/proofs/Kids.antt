@@ -9,12 +9,13 @@ use Rattle.smil_model.specs.declared.document.Node.{Node}
 use Rattle.smil_model.specs.document.Document.{Document, node_at, descendants, is_within, serials}
 use Rattle.smil_model.specs.document.Valid.{IsNumberedTree}
 use Rattle.smil_model.specs.document.Edits.{children, place_in, child_place}
+use Rattle.smil_model.specs.ListTables.{list_in}
 use Rattle.smil_laws.specs.Locality.{ParentsBefore}
 use Rattle.smil_laws.specs.Edited.{IsOrdered}
 use Rattle.smil_laws.proofs.Numbered.{ordered}
 use Rattle.smil_laws.proofs.Aside.{each_reverse, find_true}
 use Rattle.smil_laws.proofs.Lists.{reverse-around}
-use Rattle.smil_tree.specs.Kin.{Families, IsKinOf, list_in}
+use Rattle.smil_tree.specs.Kin.{Families, IsKinOf}
 use Rattle.smil_tree.proofs.Changed.{some_node}
 use Rattle.smil_tree.proofs.Owners.{around}
 use Rattle.smil_tree.proofs.Cuts.{get_seam}

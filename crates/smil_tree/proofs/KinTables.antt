@@ -8,9 +8,10 @@ use Rattle.std.proofs.lemmas.Bool.{eqb-true}
 use Rattle.smil_model.specs.declared.document.Node.{Node}
 use Rattle.smil_model.specs.document.Document.{is_time_child, serials}
 use Rattle.smil_model.specs.reach.Reach.{is_option}
+use Rattle.smil_model.specs.ListTables.{list_in, list_of, rows}
 use Rattle.smil_laws.proofs.Lineages.{same_eqb}
 use Rattle.smil_tree.specs.Held.{cut}
-use Rattle.smil_tree.specs.Kin.{Families, IsKinOf, rows, list_in, list_of, AreListsOf, Separates}
+use Rattle.smil_tree.specs.Kin.{AreListsOf, Families, IsKinOf, Separates}
 use Rattle.smil_tree.proofs.KinLists.{before, passing-between, passing-cut, passing-rest}
 
 abbrev pub is_child : ℕ → Node → Bool

@@ -10,10 +10,11 @@ use Rattle.smil_model.specs.document.Document.{node_at, lineage, is_class_kind}
 use Rattle.smil_model.specs.document.Valid.{IsValid, depth_of, kind_of, may_hold, may_stand, agree_with, same_test, is_well_placed}
 use Rattle.smil_model.specs.document.Edits.{children}
 use Rattle.smil_model.specs.shown.Orders.{is_place}
+use Rattle.smil_model.specs.ListTables.{list_in}
 use Rattle.smil_laws.specs.Edited.{IsOrdered}
 use Rattle.smil_laws.proofs.Lists.{each_weaker}
 use Rattle.smil_laws.proofs.Ranks.{serials_length}
-use Rattle.smil_tree.specs.Kin.{Families, IsKinOf, list_in}
+use Rattle.smil_tree.specs.Kin.{Families, IsKinOf}
 use Rattle.smil_tree.specs.declared.fault.TreeFault.TheVariants.{TooDeep, BadPlace}
 use Rattle.smil_tree.specs.Outcomes.{passes, place_outcome, agrees_with_first}
 use Rattle.smil_tree.proofs.Families.{above_of}

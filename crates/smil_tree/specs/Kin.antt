@@ -1,11 +1,12 @@
 -- The serials of the children and of the time children of each node, in document order,
 -- in tables of lists.
-use Rattle.std.specs.Prelude.{◌≡◌, ℕ, ◌<◌, List, [], map, filter, Bool, true, false, not, ◌==◌, nat_eq, nat_lt, Option, Some, None, option_map, unwrap_or, slice_get, slice_range}
+use Rattle.std.specs.Prelude.{◌≡◌, ℕ, ◌<◌, List, [], filter, Bool, true, false, not, ◌==◌, nat_eq, nat_lt, Option, Some, None, slice_get, slice_range}
 use Rattle.std.specs.List.{list_any, position}
 use Rattle.std.specs.Map.{lookup}
 use Rattle.std.specs.Vec.{vec_len, vec_capacity}
 use Rattle.std.specs.declared.vec.Vec.{Vec}
 use Rattle.smil_model.specs.declared.document.Node.{Node}
+use Rattle.smil_model.specs.ListTables.{list_in, list_of}
 use Rattle.smil_model.specs.document.Document.{is_within, time_children as time_children_of, serials}
 use Rattle.smil_model.specs.document.Edits.{children as children_of}
 use Rattle.smil_model.specs.reach.Reach.{is_option}
@@ -15,10 +16,6 @@ use Rattle.smil_tree.specs.Held.{cut}
 pub record Families : Type 0 where
   pub children : List (ℕ × List ℕ)
   pub time_children : List (ℕ × List ℕ)
-
--- the list of a serial; it is empty where there is none
-abbrev pub list_in : List (ℕ × List ℕ) → ℕ → List ℕ
-list_in table serial = unwrap_or (lookup (nat_eq serial) table) []
 
 -- they are the children and the time children of these nodes
 pub record IsKinOf (families : Families) (nodes : List Node) : Type 0 where
@@ -44,15 +41,6 @@ is_before nodes at serial = is_earlier at (position (λ (n : Node). n.serial == 
 -- ---- tables of lists
 
 module _ {Z : Type 0} where
-  -- the table with each list as its items
-  abbrev pub rows : List (ℕ × Vec ℕ Z) → List (ℕ × List ℕ)
-  rows table = map (λ (e : ℕ × Vec ℕ Z). (e.0, e.1.items)) table
-
-  -- the list of a serial; it is empty where there is none
-  abbrev pub list_of : List (ℕ × Vec ℕ Z) → ℕ → List ℕ
-  list_of table serial =
-      unwrap_or (option_map (λ (v : Vec ℕ Z). v.items) (lookup (nat_eq serial) table)) []
-
   -- a table has the lists of those that pass for each serial
   abbrev pub AreListsOf : (ℕ → Node → Bool) → List (ℕ × Vec ℕ Z) → List Node → Type 0
   AreListsOf t table nodes = (s : ℕ) → list_of table s ≡ serials (filter (t s) nodes)

@@ -1,9 +1,9 @@
 -- What a tree keeps beside its nodes, and what it knows of them.
-use Rattle.std.specs.Prelude.{◌≡◌, ℕ, List, find, Bool, false, not, ◌==◌, Option, None, Some, option_map}
+use Rattle.std.specs.Prelude.{◌≡◌, ℕ, List, find, Bool, false, not, ◌==◌, Option, None, Some}
 use Rattle.std.specs.Str.{bytes_eq}
 use Rattle.std.specs.Map.{lookup}
 use Rattle.smil_model.specs.declared.document.Node.{Node}
-use Rattle.smil_model.specs.document.Document.{has_id}
+use Rattle.smil_model.specs.document.Document.{has_id, serial_of}
 use Rattle.smil_model.specs.document.Valid.{IsValid, references}
 use Rattle.smil_tree.specs.Kin.{Families, IsKinOf}
 
@@ -13,7 +13,7 @@ bears id n = has_id id n.attrs.id
 
 -- the serial of the node with this id
 abbrev pub owner : List ℕ → List Node → Option ℕ
-owner id nodes = option_map (λ (n : Node). n.serial) (find (bears id) nodes)
+owner id nodes = serial_of (find (bears id) nodes)
 
 -- whether this is another serial than the given one
 abbrev pub is_other : ℕ → Option ℕ → Bool

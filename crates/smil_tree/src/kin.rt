@@ -7,9 +7,10 @@ ghost use Rattle.smil_model.specs.document.Document.{is_element, time_parent as 
 ghost use Rattle.smil_model.specs.document.Edits.{children};
 ghost use Rattle.smil_model.specs.document.Valid.{IsDistinct};
 ghost use Rattle.smil_model.specs.reach.Reach.{is_option};
+ghost use Rattle.smil_model.specs.ListTables.{list_in, list_of};
 ghost use Rattle.smil_laws.specs.Edited.{IsOrdered};
 ghost use Rattle.smil_tree.specs.Held.{cut};
-ghost use Rattle.smil_tree.specs.Kin.{IsKinOf, IsSubtree, is_before, list_in, list_of, AreListsOf, HasRoom, Separates};
+ghost use Rattle.smil_tree.specs.Kin.{AreListsOf, HasRoom, IsKinOf, IsSubtree, Separates, is_before};
 
 use crate::nodes::Nodes;
 use smil_model::Node;
@@ -46,7 +47,8 @@ pub struct Kin {
 }
 
 impl Model for Kin {
-    ghost use Rattle.smil_tree.specs.Kin.{Families, rows};
+    ghost use Rattle.smil_model.specs.ListTables.{rows};
+    ghost use Rattle.smil_tree.specs.Kin.{Families};
 
     ghost Value = { Families };
 

@@ -92,6 +92,13 @@ impl Tree {
         let _kept = &self.next;
     }
 
+    /// The serial of the next node that is inserted. It takes no memory.
+    pub fn next(&self) -> u32
+        ensures { result ≡ self.now.next }
+    {
+        self.next
+    }
+
     /// The nodes, in document order. It takes no memory.
     pub fn nodes(&self) -> Walk<'_>
         ensures { result ≡ self.now.nodes }

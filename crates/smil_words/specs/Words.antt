@@ -17,15 +17,17 @@ session_number (b ∷ bytes) =
     if b == zero_digit then None else (if nat_le (length (b ∷ bytes)) SESSION_DIGITS
     then number_of (b ∷ bytes) >>= in_range else None)
 
+-- `run` or `check`
 abbrev pub of_one : List ℕ → Option Mode
 of_one word = if bytes_eq word (codes "run") then Some Run
     else (if bytes_eq word (codes "check") then Some Check else None)
 
+-- `gen` and a number
 abbrev pub of_two : List ℕ → List ℕ → Option Mode
 of_two word digits =
     if bytes_eq word (codes "gen") then session_number digits >>= (λ n. Some (Gen n)) else None
 
--- `run`, `check`, or `gen` and a number
+-- what the words ask for
 abbrev pub mode_of : List (List ℕ) → Option Mode
 mode_of (word ∷ []) = of_one word
 mode_of (word ∷ digits ∷ []) = of_two word digits

@@ -3,9 +3,9 @@
 ghost use Rattle.std.specs.Prelude.{◌≡◌, IsSome, find};
 ghost use Rattle.smil_model.specs.document.Document.{is_excl_kind, node_at, serial_of, time_parent};
 ghost use Rattle.smil_model.specs.diary.Diary.{History};
-ghost use Rattle.smil_model.specs.happening.Queue.{playing_child as playing_child_of};
+ghost use Rattle.smil_model.specs.happening.Queue.{is_playing_by, playing_child as playing_child_of};
 ghost use Rattle.smil_model.specs.reach.Reach.{is_option};
-ghost use Rattle.smil_element.specs.Parts.{ArePartsOf, excl_in, is_playing_by, left_excl, rival as rival_in};
+ghost use Rattle.smil_element.specs.Parts.{ArePartsOf, excl_in, left_excl, rival as rival_in};
 
 use super::parts::Parts;
 use smil_diary::Book;

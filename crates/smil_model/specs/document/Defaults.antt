@@ -1,5 +1,5 @@
 -- What an absent or inherited attribute means.
-use Rattle.std.specs.Prelude.{ℤ, pos, List, [], ◌∷◌, filter, Bool, true, false, not, ◌||◌, if◌then◌else◌, Option, Some, None, is_some, unwrap_or, option_and_then}
+use Rattle.std.specs.Prelude.{ℕ, ℤ, pos, List, [], ◌∷◌, filter, Bool, true, false, not, ◌||◌, if◌then◌else◌, Option, Some, None, is_some, unwrap_or, option_and_then}
 use Rattle.smil_model.specs.declared.times.Time.{Time}
 use Rattle.smil_model.specs.declared.times.Time.TheVariants.{At}
 use Rattle.smil_model.specs.declared.times.Time.TheVariants as time
@@ -87,9 +87,9 @@ first_stated stated without (n ∷ above) =
 
 -- a default that an element inherits: its own, or that of the nearest element above it that states
 -- one
-abbrev pub inherited : {A : Type 0} → List Node → (Node → Option A) → A → Node → A
-inherited nodes stated without e =
-    first_stated stated without (filter is_element (lineage nodes e.serial))
+abbrev pub inherited : {A : Type 0} → List Node → (Node → Option A) → A → ℕ → A
+inherited nodes stated without serial =
+    first_stated stated without (filter is_element (lineage nodes serial))
 
 -- the restart that `restartDefault` states; `inherit` states none
 abbrev pub restart_stated : RestartDefault → Option Restart
@@ -99,9 +99,9 @@ restart_stated restart_default.Never = Some Never
 restart_stated restart_default.Inherit = None
 
 -- where no element on the way up states a default, an element may always restart
-abbrev pub default_restart : List Node → Node → Restart
-default_restart nodes e =
-    inherited nodes (λ (n : Node). option_and_then restart_stated n.attrs.restart_default) Always e
+abbrev pub default_restart : List Node → ℕ → Restart
+default_restart nodes serial = inherited nodes
+    (λ (n : Node). option_and_then restart_stated n.attrs.restart_default) Always serial
 
 -- what the attribute states, or the default where it is absent or `default`
 abbrev pub restart_or : Restart → Option Restart → Restart
@@ -111,7 +111,7 @@ restart_or otherwise (Some stated) = stated
 
 -- the restart of an element
 abbrev pub restart_of : List Node → Node → Restart
-restart_of nodes e = restart_or (default_restart nodes e) e.attrs.restart
+restart_of nodes e = restart_or (default_restart nodes e.serial) e.attrs.restart
 
 -- the fill that `fillDefault` states; `inherit` states none
 abbrev pub fill_stated : FillDefault → Option Fill
@@ -122,9 +122,9 @@ fill_stated fill_default.Auto = Some Auto
 fill_stated fill_default.Inherit = None
 
 -- where no element on the way up states a default, it is `auto`
-abbrev pub default_fill : List Node → Node → Fill
-default_fill nodes e =
-    inherited nodes (λ (n : Node). option_and_then fill_stated n.attrs.fill_default) Auto e
+abbrev pub default_fill : List Node → ℕ → Fill
+default_fill nodes serial =
+    inherited nodes (λ (n : Node). option_and_then fill_stated n.attrs.fill_default) Auto serial
 
 -- what the attribute states, or the default where it is absent or `default`
 abbrev pub fill_or : Fill → Option Fill → Fill
@@ -134,7 +134,7 @@ fill_or otherwise (Some stated) = stated
 
 -- the fill of an element
 abbrev pub fill_of : List Node → Node → Fill
-fill_of nodes e = fill_or (default_fill nodes e) e.attrs.fill
+fill_of nodes e = fill_or (default_fill nodes e.serial) e.attrs.fill
 
 -- `auto` freezes where nothing limits the duration
 abbrev pub fill_when_auto : Attrs → Fill

@@ -138,7 +138,7 @@ element_named nodes id = find (λ (n : Node). is_element n && has_id id n.attrs.
 -- or the element itself where the item has none
 abbrev pub target : List Node → ℕ → Option (List ℕ) → Option ℕ
 target nodes e None = Some e
-target nodes e (Some id) = option_map (λ (n : Node). n.serial) (element_named nodes id)
+target nodes e (Some id) = serial_of (element_named nodes id)
 
 -- whether y is x or a descendant of it
 abbrev pub is_within : List Node → ℕ → ℕ → Bool

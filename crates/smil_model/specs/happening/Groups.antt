@@ -13,11 +13,15 @@ use Rattle.smil_model.specs.diary.Clocks.{outer}
 use Rattle.smil_model.specs.happening.Queue.{playing_child, queue_of, decision}
 use Rattle.smil_model.specs.happening.Keys.{Change, begins, ends, repeats}
 
--- the active descendants are cut, later ones first
-abbrev pub cuts : History → ℕ → List Step
-cuts h serial =
+-- the cuts of those of these nodes that are active, later ones first
+abbrev pub cut_steps : List Entry → List Node → List Step
+cut_steps diary nodes =
     map (λ (n : Node). Cut n.serial)
-    (reverse (filter (λ (n : Node). is_active h.diary n.serial) (descendants h.nodes serial)))
+    (reverse (filter (λ (n : Node). is_active diary n.serial) nodes))
+
+-- the active descendants are cut
+abbrev pub cuts : History → ℕ → List Step
+cuts h serial = cut_steps h.diary (descendants h.nodes serial)
 
 -- the first of the queue resumes where it was paused, and begins where it was deferred
 abbrev pub follower : History → ℤ → List ℕ → List Step

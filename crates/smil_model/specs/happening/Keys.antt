@@ -4,6 +4,7 @@ use Rattle.std.specs.Prelude.{ℕ, suc, ℤ, pos, ◌+ℤ◌, ◌-ℤ◌, int_lt
 use Rattle.smil_model.specs.declared.times.Time.{Time}
 use Rattle.smil_model.specs.declared.times.Time.TheVariants.{At}
 use Rattle.smil_model.specs.declared.interval.Interval.{Interval}
+use Rattle.smil_model.specs.declared.happening.TheConstants.{BEGIN_CLASS, EMPTY_END_CLASS, END_CLASS}
 use Rattle.smil_model.specs.declared.happening.Key.{Key}
 use Rattle.smil_model.specs.declared.document.Node.{Node}
 use Rattle.smil_model.specs.Times.{time_le, later_time}
@@ -41,16 +42,17 @@ coming_at moment class place e change = record {
   change = change;
 }
 
--- the begin of a current interval, in class 2
+-- the begin of a current interval
 abbrev pub coming_begin : History → ℤ → ℕ → Node → Option Interval → List DueChange
 coming_begin h now place e None = []
 coming_begin h now place e (Some i) =
-    coming_at (to_document h e.serial i.begin now) 2 place e (begins i.begin) ∷ []
+    coming_at (to_document h e.serial i.begin now) BEGIN_CLASS place e (begins i.begin) ∷ []
 
--- the end of a current interval that is a number: in class 1, and in class 3 where the length is 0
+-- the end of a current interval that is a number, in a class of its own where the length is 0
 abbrev pub coming_end_at : History → ℤ → ℕ → Node → ℤ → Time → List DueChange
 coming_end_at h now place e begin (At v) =
-    coming_at (to_document h e.serial v now) (if int_lt begin v then 1 else 3) place e (ends v) ∷ []
+    let class = if int_lt begin v then END_CLASS else EMPTY_END_CLASS in
+    coming_at (to_document h e.serial v now) class place e (ends v) ∷ []
 coming_end_at h now place e begin _ = []
 
 abbrev pub coming_end : History → ℤ → ℕ → Node → Option Interval → List DueChange
@@ -64,26 +66,30 @@ coming_repeat_at h now place e simple (At over) =
     if not (time_le simple (At (pos 0)))
     && not (time_le (intermediate_end (bounds_of e.attrs) simple (play_start h e.serial)
     (iteration_start h e.serial) (iteration h e.serial)) (At over))
-    then coming_at (now +ℤ (over -ℤ run h e.serial now)) 1 place e (repeats over) ∷ []
+    then coming_at (now +ℤ (over -ℤ run h e.serial now)) END_CLASS place e (repeats over) ∷ []
     else []
 coming_repeat_at h now place e simple _ = []
 
 -- an element with `repeatCount` or `repeatDur` repeats while its own clock runs
-abbrev pub coming_repeat : History → (ℕ → Option Interval) → ℤ → ℕ → Node → List DueChange
-coming_repeat h intervals now place e =
+abbrev pub coming_repeat : History → Time → ℤ → ℕ → Node → List DueChange
+coming_repeat h simple now place e =
     if (is_some e.attrs.repeat_count || is_some e.attrs.repeat_dur) && not (stands h e.serial)
-    then coming_repeat_at h now place e (simple_of h intervals e)
-    (later_time (simple_of h intervals e) (iteration_start h e.serial))
+    then coming_repeat_at h now place e simple (later_time simple (iteration_start h e.serial))
     else []
 
--- what comes of an element: its begin or its end while the time parent's clock runs,
--- and its repeat while it is active
+-- what comes of an element by its interval and its simple duration: its begin or its end
+-- while the time parent's clock runs, and its repeat while it is active
+abbrev pub coming_by : History → Option Interval → Time → ℤ → ℕ → Node → List DueChange
+coming_by h interval simple now place e =
+    if is_active h.diary e.serial
+    then (if outer_stands h e.serial then [] else coming_end h now place e interval)
+    ++ coming_repeat h simple now place e
+    else (if outer_stands h e.serial then [] else coming_begin h now place e interval)
+
+-- the same, given the intervals of all
 abbrev pub coming_of : History → (ℕ → Option Interval) → ℤ → ℕ → Node → List DueChange
 coming_of h intervals now place e =
-    if is_active h.diary e.serial
-    then (if outer_stands h e.serial then [] else coming_end h now place e (intervals e.serial))
-    ++ coming_repeat h intervals now place e
-    else (if outer_stands h e.serial then [] else coming_begin h now place e (intervals e.serial))
+    coming_by h (intervals e.serial) (simple_of h intervals e) now place e
 
 abbrev pub coming_from : History → (ℕ → Option Interval) → ℤ → ℕ → List Node → List DueChange
 coming_from h intervals now place [] = []
@@ -104,7 +110,9 @@ keys h now = map (λ (c : DueChange). c.key) (coming h now)
 -- among keys of one moment and class: begins earlier in the document first, all others later first
 abbrev pub is_placed_before : Key → Key → Bool
 is_placed_before a b =
-    if a.class == 2 then nat_lt a.position b.position else nat_lt b.position a.position
+    if a.class == BEGIN_CLASS
+    then nat_lt a.position b.position
+    else nat_lt b.position a.position
 
 -- an end before a repeat of the same element
 abbrev pub is_ordered_before : Key → Key → Bool

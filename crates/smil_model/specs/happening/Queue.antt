@@ -54,9 +54,13 @@ decide_by playing newcomer =
 abbrev pub decision : List Node → ℕ → ℕ → Act
 decision nodes playing newcomer = decide_by (class_facts nodes playing) (rank nodes newcomer)
 
+-- whether the element with this serial is active and not paused
+abbrev pub is_playing_by : List Entry → ℕ → Bool
+is_playing_by diary serial = is_active diary serial && not (is_paused diary serial)
+
 -- the playing child of an excl: its active time child that is not paused
 abbrev pub is_playing : List Entry → Node → Bool
-is_playing diary n = is_active diary n.serial && not (is_paused diary n.serial)
+is_playing diary n = is_playing_by diary n.serial
 
 abbrev pub playing_child : History → ℕ → Option Node
 playing_child h excl = find (is_playing h.diary) (time_children h.nodes excl)

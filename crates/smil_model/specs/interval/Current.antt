@@ -62,20 +62,29 @@ abbrev pub is_named_child : Option Endsync → Node → Bool
 is_named_child (Some (Child id)) c = has_id id c.attrs.id
 is_named_child _ c = false
 
--- the first end of a time child: of its first finished interval, or else of its current one;
--- and its latest end: of its current interval, or unresolved while it is deferred,
+-- the end of an interval, if there is one
+abbrev pub present_end : Option Interval → Option Time
+present_end interval = option_map (λ (i : Interval). i.«end») interval
+
+-- the first end of a time child: of its first finished interval, or else of its current one
+abbrev pub first_end_of : History → Option Interval → ℕ → Option Time
+first_end_of h interval serial =
+    option_or (option_map finish_time (first_of (plays h serial).finished)) (present_end interval)
+
+-- its latest end: of its current interval, or unresolved while it is deferred,
 -- or else of its last finished one
+abbrev pub latest_end_of : History → Option Interval → ℕ → Option Time
+latest_end_of h interval serial =
+    option_or (present_end interval) (if is_deferred h serial then Some Unresolved
+    else option_map finish_time (last_or None (plays h serial).finished))
+
+-- what `endsync` asks of a time child
 abbrev pub child_end : History → (ℕ → Option Interval) → Node → Node → ChildEnd
-child_end h intervals e c =
-    let coming = option_map (λ (i : Interval). i.«end») (intervals c.serial) in
-    let done = (plays h c.serial).finished in
-    record {
-      named = is_named_child e.attrs.endsync c;
-      first = option_or (option_map finish_time (first_of done)) coming;
-      latest =
-          option_or coming (if is_deferred h c.serial then Some Unresolved
-          else option_map finish_time (last_or None done));
-    }
+child_end h intervals e c = record {
+  named = is_named_child e.attrs.endsync c;
+  first = first_end_of h (intervals c.serial) c.serial;
+  latest = latest_end_of h (intervals c.serial) c.serial;
+}
 
 -- the implicit duration of a container, unresolved while it is not active
 abbrev pub container_implicit : History → (ℕ → Option Interval) → Node → Time

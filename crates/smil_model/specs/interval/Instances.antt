@@ -25,6 +25,7 @@ use Rattle.smil_model.specs.document.Defaults.{begin_list, end_list, restart_of}
 use Rattle.smil_model.specs.document.Dependencies.{leads_to}
 use Rattle.smil_model.specs.diary.Diary.{History, birth, is_active, is_alive, iteration, up_to, with_past}
 use Rattle.smil_model.specs.diary.Clocks.{outer, between, parent_start, outer_stands}
+use Rattle.smil_model.specs.reach.Reach.{is_option, key_of}
 
 -- ---- the begins and ends of another element
 
@@ -94,19 +95,9 @@ is_event log x name (Cut who) = (who == x) && bytes_eq name (codes "endEvent")
 is_event log x name (Repeated who start) = (who == x) && bytes_eq name (codes "repeatEvent")
 is_event log x name _ = false
 
--- whether this is a press of the key
-abbrev pub is_pressed : ℕ → Happening → Bool
-is_pressed key (happening.Key own) = own == key
-is_pressed key _ = false
-
-abbrev pub is_log_key : ℕ → Option LogEntry → Bool
-is_log_key key None = false
-is_log_key key (Some entry) = is_pressed key entry.what
-
 -- whether the step is an occurrence of the key: a logged press
 abbrev pub is_press : List LogEntry → ℕ → Step → Bool
-is_press log key (Logged place) = is_log_key key (slice_get log place)
-is_press log key _ = false
+is_press log key step = is_option key (key_of log step)
 
 -- whether the step begins iteration n of x
 abbrev pub is_repeat : History → ℕ → ℕ → Step → Bool

@@ -1,5 +1,5 @@
 -- What a player answers to an order: the new state and the text, or the refusal.
-use Rattle.std.specs.Prelude.{ℕ, ◌<◌, ◌≤◌, pos, List, [], ◌∷◌, ◌++◌, flat_map, length, true, not, ◌&&◌, ◌≡◌, ◌⊎◌, Option, Some, None, unwrap_or, Ok, Err}
+use Rattle.std.specs.Prelude.{ℕ, ◌<◌, ◌≤◌, pos, List, [], ◌∷◌, ◌++◌, flat_map, length, true, not, ◌&&◌, ◌≡◌, ◌⊎◌, Option, Some, None, unwrap_or, Result, Ok, Err}
 use Rattle.std.specs.Option.{option_map_or}
 use Rattle.smil_model.specs.declared.limits.TheConstants.{TEXT_BYTES}
 use Rattle.smil_model.specs.declared.document.Node.{Node}
@@ -36,12 +36,14 @@ abbrev pub gone_text : Presentation → Presentation → List ℕ
 gone_text before after =
     flat_map (λ (n : Node). gone_line (pos after.now) (name_of n)) (gone_elements before after)
 
+-- the line of an interval as it is shown
+abbrev pub told_line : Who → ShownInterval → List ℕ
+told_line name t = interval_line name t.begin t.finish t.how
+
 abbrev pub history_text : Presentation → Option Node → List ℕ
 history_text p None = []
 history_text p (Some n) =
-    flat_map
-    (λ (t : ShownInterval). interval_line (name_of n) t.begin t.finish t.how)
-    (intervals_of (resolved_history p) (pos p.now) n)
+    flat_map (told_line (name_of n)) (intervals_of (resolved_history p) (pos p.now) n)
 
 -- the value that a set sets, and how it is named
 abbrev pub value_of : List Node → ℕ → List ℕ
@@ -137,10 +139,13 @@ pub record Accepts
   pub state : outcome formats before given ≡ Ok after
   pub answer : text ≡ answer_text formats before after given
 
+-- a refusal is that of what was to be made, or memory ran out
+abbrev pub IsRefusedBy : {A : Type 0} → Result A Refusal → Refusal → Type 0
+IsRefusedBy wanted refusal = (refusal ≡ Memory) ⊎ (wanted ≡ Err refusal)
+
 -- an order is refused for its first fault, or because memory ran out
 abbrev pub Refuses : Formats → Presentation → Order → Refusal → Type 0
-Refuses formats before given refusal =
-    (refusal ≡ Memory) ⊎ (outcome formats before given ≡ Err refusal)
+Refuses formats before given refusal = IsRefusedBy (outcome formats before given) refusal
 
 -- ---- how often intervals are evaluated
 

@@ -133,11 +133,14 @@ changes_of before after Values = []
 changes_of before after (Stack who name) = []
 changes_of before after _ = changes_between before after
 
+-- the elements of a document that another doesn't have
+abbrev pub gone_from : List Node → List Node → List Node
+gone_from after before =
+    filter (λ (n : Node). not (is_some (node_at after n.serial))) (elements before)
+
 -- the elements that an order removed, in the old document order
 abbrev pub gone_elements : Presentation → Presentation → List Node
-gone_elements before after =
-    filter (λ (n : Node). not (is_some (node_at after.document.nodes n.serial)))
-    (elements before.document.nodes)
+gone_elements before after = gone_from after.document.nodes before.document.nodes
 
 -- ---- refusals
 

@@ -47,13 +47,14 @@ abbrev pub with_setter : ℕ → Option Layer → Option (ℕ × Layer)
 with_setter setter None = None
 with_setter setter (Some layer) = Some (setter, layer)
 
+-- the layer of the element of a view, with its set
+abbrev pub layer_in : List Node → View → Option (ℕ × Layer)
+layer_in nodes v =
+    with_setter v.serial (option_and_then (layer_of nodes v) (node_at nodes v.serial))
+
 -- the layers of all sets, by the views of all elements
 abbrev pub layers : List Node → List View → List (ℕ × Layer)
-layers nodes views =
-    filter_map
-    (λ (v : View). with_setter v.serial
-    (option_and_then (layer_of nodes v) (node_at nodes v.serial)))
-    views
+layers nodes views = filter_map (layer_in nodes) views
 
 -- the greater begin stands above, and of equal ones the later in the document
 abbrev pub is_above : Layer → Layer → Bool

@@ -107,11 +107,14 @@ is_finish serial (Ended who end') = who == serial
 is_finish serial (Cut who) = who == serial
 is_finish serial _ = false
 
+-- how many entries there are up to the last end of an element; all where there is none
+abbrev pub finished_by : List Entry → ℕ → ℕ
+finished_by diary serial =
+    option_map_or suc (last_place (λ (x : Entry). is_finish serial x.step) diary) (length diary)
+
 -- the entries after the last end of the element
 abbrev pub since_finish : List Entry → ℕ → List Entry
-since_finish diary serial =
-    drop (option_map_or suc (last_place (λ (x : Entry). is_finish serial x.step) diary)
-    (length diary)) diary
+since_finish diary serial = drop (finished_by diary serial) diary
 
 abbrev pub is_sibling : List Node → Option Node → ℕ → ℕ → Bool
 is_sibling nodes None serial other = false

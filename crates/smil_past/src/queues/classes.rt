@@ -1,12 +1,12 @@
 //! The priority classes of the nodes of a document.
 
-ghost use Rattle.std.specs.Prelude.{◌≡◌, ℕ, ◌<◌, ◌≤◌, ◌==◌, true, length, IsSome, IfOk, IfSome, unwrap_or};
+ghost use Rattle.std.specs.Prelude.{◌≡◌, ℕ, ◌≤◌, ◌==◌, true, length, IsSome, IfOk, unwrap_or};
 ghost use Rattle.std.specs.List.{position};
 ghost use Rattle.smil_model.specs.document.Document.{has_kind, is_class_kind, node_at};
 ghost use Rattle.smil_model.specs.happening.Queue.{class_facts, class_of as class_node, place_of};
 ghost use Rattle.smil_past.specs.Queues.{classes_in};
 
-use smil_model::{Act, Class};
+use smil_model::{Act, Class, position_in};
 use smil_tree::Tree;
 use std::alloc::{AllocError, Global};
 
@@ -84,12 +84,4 @@ fn place_in(list: &[u32], serial: u32) -> usize
         Some(place) => place,
         None => 0,
     }
-}
-
-// The first place of a serial in a list.
-fn position_in(list: &[u32], serial: u32) -> Option<usize>
-    ensures place { result ≡ position (λ other. other == serial) list.now }
-    ensures bound { IfSome result (λ place. place < length list.now) }
-{
-    list.iter().position(|other| *other == serial)
 }

@@ -3,10 +3,10 @@
 ghost use Rattle.std.specs.Prelude.{◌≡◌, None, Some, IsSome, option_map, option_and_then, if◌then◌else◌};
 ghost use Rattle.smil_model.specs.declared.document.Fill.TheVariants as fill;
 ghost use Rattle.smil_model.specs.declared.document.Restart.TheVariants as restart;
-ghost use Rattle.smil_model.specs.document.Defaults.{fill_of, fill_stated, restart_of, restart_stated};
+ghost use Rattle.smil_model.specs.document.Defaults.{default_fill, default_restart, fill_of, fill_stated, restart_of, restart_stated};
 ghost use Rattle.smil_model.specs.document.Document.{node_at, is_element};
 ghost use Rattle.smil_laws.specs.Edited.{IsOrdered};
-ghost use Rattle.smil_tree.specs.Inherited.{fill_from, own_fill, own_restart, restart_from};
+ghost use Rattle.smil_tree.specs.Inherited.{own_fill, own_restart};
 
 use super::Tree;
 use crate::nodes::Nodes;
@@ -15,7 +15,7 @@ use smil_model::{Attrs, Fill, FillDefault, Node, Restart, RestartDefault};
 impl Tree {
     /// The restart of an element: its `restart`, or where that is absent or `default` the
     /// `restartDefault` of the nearest element, itself or above it, that states one, or else
-    /// `always` (SMIL 3.0 Timing, the `restartDefault` attribute). It takes no memory.
+    /// `always`. It takes no memory. SMIL 3.0, "The restartDefault attribute".
     pub fn restart_of(&self, serial: u32) -> Restart
         requires { IsSome (node_at self.now.nodes serial) }
         ensures restart { Some result ≡ option_map (restart_of self.now.nodes)
@@ -30,8 +30,8 @@ impl Tree {
     }
 
     /// The fill of an element: its `fill`, or where that is absent or `default` the `fillDefault`
-    /// of the nearest element, itself or above it, that states one, or else `auto` (SMIL 3.0
-    /// Timing, the `fillDefault` attribute). It takes no memory.
+    /// of the nearest element, itself or above it, that states one, or else `auto`. It takes
+    /// no memory. SMIL 3.0, "The fillDefault attribute".
     pub fn fill_of(&self, serial: u32) -> Fill
         requires { IsSome (node_at self.now.nodes serial) }
         ensures fill { Some result ≡ option_map (fill_of self.now.nodes)
@@ -59,7 +59,7 @@ fn own_restart(attrs: &Attrs) -> Option<Restart>
 // The restart that the elements from a node upwards state by default.
 fn default_restart(nodes: &Nodes, serial: u32) -> Restart
     requires { IsOrdered nodes.now }
-    ensures { result ≡ restart_from nodes.now serial }
+    ensures { result ≡ default_restart nodes.now serial }
 {
     let mut at = serial;
     while let Some(node) = nodes.get(at) {
@@ -84,7 +84,7 @@ fn own_fill(attrs: &Attrs) -> Option<Fill>
 // The fill that the elements from a node upwards state by default.
 fn default_fill(nodes: &Nodes, serial: u32) -> Fill
     requires { IsOrdered nodes.now }
-    ensures { result ≡ fill_from nodes.now serial }
+    ensures { result ≡ default_fill nodes.now serial }
 {
     let mut at = serial;
     while let Some(node) = nodes.get(at) {

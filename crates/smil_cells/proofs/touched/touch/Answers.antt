@@ -1,5 +1,5 @@
 use Rattle.std.proofs.Common.{◌≡◌, ◌∙◌, sym, ap, subst, inr, List, Some, true, drop, get_or}
-use Rattle.std.specs.Prelude.{slice_get, pos}
+use Rattle.std.specs.Prelude.{slice_get}
 use Rattle.smil_model.specs.declared.diary.Entry.{Entry}
 use Rattle.smil_model.specs.document.Document.{Document, elements, node_at}
 use Rattle.smil_laws.specs.Seen.{any_shows}
@@ -7,11 +7,8 @@ use Rattle.smil_cells.proofs.Showing.{SameTouched, entries_from, more_shown, all
 use Rattle.std.proofs.lemmas.List.{take_rest}
 use Rattle.std.proofs.lemmas.Option.{slice_get-get_or}
 use Rattle.std.proofs.lemmas.Result.{on_ok_weaker}
-use Rattle.smil_model.specs.declared.diary.Step.TheVariants.{Began}
+use Rattle.smil_stretch.proofs.Idle.{no_entry}
 use Rattle.smil_cells.proofs.touched.touch.Goals as goal
-
-abbrev none : Entry
-none = record { moment = pos 0; step = Began 0 (pos 0) }
 
 pub loop-entry-init : goal.loop-entry-init
 loop-entry-init c = record { more = λ e here q. q; left = λ e here q. inr q }
@@ -20,11 +17,11 @@ pub loop-entry-preserved : goal.loop-entry-preserved
 loop-entry-preserved c =
     let entries = entries_from c.entries.result.now c.args.from in
     let i = c.loop-entry.entry-index in
-    let at : slice_get entries i ≡ Some (get_or entries i none) = slice_get-get_or entries i none c.loop-entry-test.true in
+    let at : slice_get entries i ≡ Some (get_or entries i no_entry) = slice_get-get_or entries i no_entry c.loop-entry-test.true in
     record {
       more = λ e here q. c.in_ok-touch_step.ensures.more e.serial (c.loop-entry.invariant.more e here q);
       left = λ e here q.
-          more_shown c.args.past.now.document c.tree-tree.result.now c.args.past.now.log c.log.result.now entries i (get_or entries i none) c.loop-entry.touched c.touch_step.new.touched e
+          more_shown c.args.past.now.document c.tree-tree.result.now c.args.past.now.log c.log.result.now entries i (get_or entries i no_entry) c.loop-entry.touched c.touch_step.new.touched e
           c.tree-tree.ensures c.log.ensures at c.in_ok-touch_step.ensures.more c.in_ok-touch_step.ensures.shown here (c.loop-entry.invariant.left e here q);
     }
 

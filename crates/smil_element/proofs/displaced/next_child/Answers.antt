@@ -8,12 +8,12 @@ pub returns-in_err-place : goal.returns-in_err-place
 returns-in_err-place c =
     c.from_residual.ensures
     ∙ ap (option_and_then (λ (k : ℕ). slice_get c.time_children-children.result.now (k + 1))) (sym c.in_err-place.was)
-    ∙ next_of_place c.args.who c.time_children-children.result.now (serials (time_children c.args.past.now.document.nodes c.args.parent)) c.place_in.result
-    (c.time_children-children.ensures ∙ ap (λ (d : Document). serials (time_children d.nodes c.args.parent)) c.tree.ensures) c.place_in.ensures.place
+    ∙ next_of_place c.args.who c.time_children-children.result.now (serials (time_children c.args.past.now.document.nodes c.args.parent)) c.position_in.result
+    (c.time_children-children.ensures ∙ ap (λ (d : Document). serials (time_children d.nodes c.args.parent)) c.tree.ensures) c.position_in.ensures.place
 
 pub returns : goal.returns
 returns c =
     c.serial_after.ensures
     ∙ ap (option_and_then (λ (k : ℕ). slice_get c.time_children-children.result.now (k + 1))) (sym c.in_ok-place.was)
-    ∙ next_of_place c.args.who c.time_children-children.result.now (serials (time_children c.args.past.now.document.nodes c.args.parent)) c.place_in.result
-    (c.time_children-children.ensures ∙ ap (λ (d : Document). serials (time_children d.nodes c.args.parent)) c.tree.ensures) c.place_in.ensures.place
+    ∙ next_of_place c.args.who c.time_children-children.result.now (serials (time_children c.args.past.now.document.nodes c.args.parent)) c.position_in.result
+    (c.time_children-children.ensures ∙ ap (λ (d : Document). serials (time_children d.nodes c.args.parent)) c.tree.ensures) c.position_in.ensures.place

@@ -1,4 +1,4 @@
-use Rattle.std.proofs.Common.{◌∙◌, ap, rules}
+use Rattle.std.proofs.Common.{◌≡◌, ◌∙◌, ap, rules, to_z, of_z}
 use Rattle.std.proofs.lemmas.Int.{to_z-of_z}
 use mir.Syntax.{w64}
 use mir.Val.{SFits}
@@ -10,6 +10,7 @@ pub returns : goal.returns
 returns g c = λ e here.
     let start = c.args.container.now.start in
     let fits : SFits w64 start = search rules in
-    c.end_by.ensures
-    ∙ (λ i. container_duration (c.kind_of.ensures e here i) (ap endsync_of (c.attrs_of.ensures e here) i) (to_z-of_z w64 start fits i) (c.deref.ensures.value i))
+    let told : c.by_endsync.result ≡ container_duration c.kind_of-kind.result c.by_endsync.ensures.0.now (to_z w64 (of_z w64 start)) c.as_slice-ends.result.now = search rules in
+    told
+    ∙ (λ i. container_duration (c.kind_of-kind.ensures e here i) ((c.by_endsync.ensures.2 ∙ ap endsync_of (c.attrs_of.ensures e here)) i) (to_z-of_z w64 start fits i) (c.as_slice-ends.ensures.value i))
     ∙ c.in_ok-deciding_ends.ensures e (endsync_of e.attrs) start here

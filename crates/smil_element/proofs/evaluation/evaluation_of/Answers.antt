@@ -22,8 +22,8 @@ evaluate-requires-clause-begins_rise g c =
     let given : ℕ → Option Interval = g.J.Intervals.given c.args.intervals.now in
     let now = c.args.present.now.moment in
     let found = element_of h.nodes c.args.present.now.who c.requires.element in
-    let begins : c.begins_told-begins.result.now ≡ begin_times h given now found.0 =
-    c.begins_told-begins.ensures found.0 given now found.1 (λ waits. c.deref.ensures.value ∙ c.in_ok-fill_begins.ensures found.0 found.1 waits ∙ ap (λ m. begin_times h given m found.0) (to_z-of_z w64 now (present_fits c.args.present.now.past.now now c.requires.moment))) in
+    let begins : c.in_ok-begins.begins.now ≡ begin_times h given now found.0 =
+    c.in_ok-begins.ensures found.0 found.1 ∙ ap (λ m. begin_times h given m found.0) (to_z-of_z w64 now (present_fits c.args.present.now.past.now now c.requires.moment)) in
     subst (λ (xs : List ℤ). IsRising int_le xs) (sym begins) (begins_rise h given now found.0)
 
 pub evaluate-requires-clause-ends_rise : goal.evaluate-requires-clause-ends_rise
@@ -32,8 +32,8 @@ evaluate-requires-clause-ends_rise g c =
     let given : ℕ → Option Interval = g.J.Intervals.given c.args.intervals.now in
     let now = c.args.present.now.moment in
     let found = element_of h.nodes c.args.present.now.who c.requires.element in
-    let ends : c.ends_told-ends.result.now ≡ end_times h given now found.0 =
-    c.ends_told-ends.ensures found.0 given now found.1 (λ waits. c.deref-2.ensures.value ∙ c.in_ok-fill_ends.ensures found.0 found.1 waits ∙ ap (λ m. end_times h given m found.0) (to_z-of_z w64 now (present_fits c.args.present.now.past.now now c.requires.moment))) in
+    let ends : c.in_ok-ends.ends.now ≡ end_times h given now found.0 =
+    c.in_ok-ends.ensures found.0 found.1 ∙ ap (λ m. end_times h given m found.0) (to_z-of_z w64 now (present_fits c.args.present.now.past.now now c.requires.moment)) in
     subst (λ (xs : List Time). IsRising time_le xs) (sym ends) (ends_rise h given now found.0)
 
 pub returns-clause-made : goal.returns-clause-made
@@ -42,10 +42,10 @@ returns-clause-made g c = λ e here.
     let given : ℕ → Option Interval = g.J.Intervals.given c.args.intervals.now in
     let now = c.args.present.now.moment in
     let whole = to_z-of_z w64 now (present_fits c.args.present.now.past.now now c.requires.moment) in
-    let begins : c.begins_told-begins.result.now ≡ begin_times h given now e =
-    c.begins_told-begins.ensures e given now here (λ waits. c.deref.ensures.value ∙ c.in_ok-fill_begins.ensures e here waits ∙ ap (λ m. begin_times h given m e) whole) in
-    let ends : c.ends_told-ends.result.now ≡ end_times h given now e =
-    c.ends_told-ends.ensures e given now here (λ waits. c.deref-2.ensures.value ∙ c.in_ok-fill_ends.ensures e here waits ∙ ap (λ m. end_times h given m e) whole) in
+    let begins : c.in_ok-begins.begins.now ≡ begin_times h given now e =
+    c.in_ok-begins.ensures e here ∙ ap (λ m. begin_times h given m e) whole in
+    let ends : c.in_ok-ends.ends.now ≡ end_times h given now e =
+    c.in_ok-ends.ensures e here ∙ ap (λ m. end_times h given m e) whole in
     let facts : c.facts_of-facts.result ≡ facts_of h given now e = c.facts_of-facts.ensures e given here (c.in_ok-simple.ensures e here) in
     record {
       interval = c.evaluate.ensures.interval ∙ (λ i. interval_of (facts i) (begins i) (ends i));

@@ -1,10 +1,10 @@
 use Rattle.std.proofs.Common.{◌++◌, ◌∷◌, [], ap, ◌∙◌, w64}
 use Rattle.std.proofs.lemmas.Int.{to_z-of_z}
+use Rattle.std.proofs.lemmas.Result.{on_ok_weaker}
 use Rattle.smil_model.specs.declared.diary.Step.TheVariants.{Ended}
 use Rattle.smil_model.specs.document.Document.{time_parent}
-use Rattle.smil_model.specs.happening.Groups.{at_moment, cuts, end_steps, followers}
-use Rattle.smil_element.specs.Parts.{cuts_below}
-use Rattle.smil_element.proofs.Appending.{retold}
+use Rattle.smil_model.specs.happening.Groups.{at_moment, cuts, followers}
+use Rattle.smil_element.specs.Parts.{AppendsBy, cuts_below}
 use Rattle.smil_element.proofs.Cutting.{stopped}
 use Rattle.smil_element.proofs.Following.{cuts_are}
 use Rattle.smil_element.proofs.happening.end_steps.Goals as goal
@@ -16,10 +16,12 @@ returns c =
     let who = c.args.who in
     let finish = c.args.«end» in
     let whole = to_z-of_z w64 finish c.ranges.«end» in
-    retold c.followers.result now c.args.entries.now c.followers.new.entries c.stop.new.entries (λ h m. followers h m who (time_parent h.nodes who)) (λ h m. end_steps h m who finish) c.followers.ensures
-    (λ h parts.
-    ap (λ es. es ++ at_moment now.moment (followers h now.moment who (time_parent h.nodes who)))
+    on_ok_weaker c.followers.result
+    (λ (made : AppendsBy now c.stop.new.entries c.followers.new.entries (λ h m. followers h m who (time_parent h.nodes who))). λ h parts.
+    made h parts
+    ∙ ap (λ es. es ++ at_moment now.moment (followers h now.moment who (time_parent h.nodes who)))
     (c.in_ok-stop.ensures
     ∙ ap (λ v. old ++ at_moment now.moment (cuts_below now who ++ Ended who v ∷ [])) whole
     ∙ ap (λ cs. old ++ at_moment now.moment (cs ++ Ended who finish ∷ [])) (cuts_are now h who parts))
     ∙ stopped now.moment old (cuts h who) (Ended who finish) (followers h now.moment who (time_parent h.nodes who)))
+    c.followers.ensures

@@ -1,14 +1,13 @@
-use Rattle.std.proofs.Common.{◌++◌, sym, ap, ◌∙◌, List}
+use Rattle.std.proofs.Common.{sym, ap, ◌∙◌, List}
 use Rattle.std.specs.Prelude.{is_some}
 use Rattle.smil_model.specs.declared.document.Node.{Node}
 use Rattle.smil_model.specs.document.Document.{node_at, time_parent}
-use Rattle.smil_model.specs.happening.Groups.{at_moment, follower, followers}
+use Rattle.smil_model.specs.happening.Groups.{follower, followers}
 use Rattle.smil_model.specs.happening.Queue.{queue_of}
 use Rattle.smil_element.proofs.Above.{parent_node}
-use Rattle.smil_element.proofs.Appending.{retold}
+use Rattle.smil_element.proofs.Appending.{nothing_appended, retold}
 use Rattle.smil_element.proofs.Finding.{left_known}
 use Rattle.smil_element.proofs.Following.{followers_in, no_followers}
-use Rattle.std.proofs.lemmas.List.{append-nil}
 use Rattle.smil_element.proofs.happening.followers.Goals as goal
 
 pub follower-requires-clause-known : goal.follower-requires-clause-known
@@ -25,12 +24,9 @@ pub returns-in-Some : goal.returns-in-Some
 returns-in-Some c =
     let now = c.args.parts.now in
     let who = c.args.who in
-    retold c.follower.result now c.args.entries.now c.follower.new.entries c.args.entries.now (λ h m. follower h m (queue_of h c.in-Some.excl)) (λ h m. followers h m who (time_parent h.nodes who)) c.follower.ensures
-    (λ h parts.
-    ap (λ ss. c.args.entries.now.items ++ at_moment now.moment ss) (followers_in h now.moment who c.in-Some.excl (time_parent h.nodes who) (c.in-Some.ensures h parts)))
+    retold c.follower.result now c.args.entries.now c.follower.new.entries (λ h m. follower h m (queue_of h c.in-Some.excl)) (λ h m. followers h m who (time_parent h.nodes who)) c.follower.ensures
+    (λ h parts. followers_in h now.moment who c.in-Some.excl (time_parent h.nodes who) (c.in-Some.ensures h parts))
 
 pub returns-in-None : goal.returns-in-None
 returns-in-None c = λ h parts.
-    let m = c.args.parts.now.moment in
-    let old = c.args.entries.now.items in
-    sym (ap (λ ss. old ++ at_moment m ss) (sym (no_followers h m c.args.who (time_parent h.nodes c.args.who) (c.in-None.ensures h parts))) ∙ append-nil old)
+    nothing_appended c.args.parts.now c.args.entries.now _ (no_followers h c.args.parts.now.moment c.args.who (time_parent h.nodes c.args.who) (c.in-None.ensures h parts))

@@ -2,5 +2,5 @@ use Rattle.smil_graph.proofs.Nodes.{IsTableTo}
 use Rattle.smil_model.specs.document.Document.{time_parent}
 use Rattle.smil_graph.proofs.outline.time_parents.Given as goal
 
-abbrev pub invariant-loop-place : goal.invariant-loop-place
-invariant-loop-place l = IsTableTo l.doc.nodes (λ n. time_parent l.doc.nodes n.serial) l.place l.above.items
+abbrev pub invariant-loop-parent : goal.invariant-loop-parent
+invariant-loop-parent l = IsTableTo l.doc.nodes (λ n. time_parent l.doc.nodes n.serial) l.parent-index l.above.items

@@ -1,9 +1,13 @@
-use Rattle.std.proofs.Common.{◌≡◌, take, true}
+use Rattle.std.proofs.Common.{◌≡◌}
 use Rattle.std.specs.List.{list_all}
 use Rattle.smil_model.specs.declared.document.Node.{Node}
 use Rattle.smil_model.specs.document.Document.{elements}
 use Rattle.smil_revision.specs.References.{keeps_loops_of}
 use Rattle.smil_revision.proofs.references.keeps_loops.Given as goal
 
+-- all pass where those that are left do
 abbrev pub invariant-loop-node : goal.invariant-loop-node
-invariant-loop-node l = list_all (λ (e : Node). keeps_loops_of l.revision.edited l.revision.old.tree.now.nodes l.revision.new.tree.now.nodes e.serial) (elements (take l.node-index l.revision.old.nodes.now)) ≡ true
+invariant-loop-node l =
+    let old = l.revision.old.tree.now.nodes in
+    let passes = λ (e : Node). keeps_loops_of l.revision.edited old l.revision.new.tree.now.nodes e.serial in
+    list_all passes (elements l.node-iterator) ≡ list_all passes (elements old)

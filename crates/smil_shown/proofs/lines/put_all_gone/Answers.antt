@@ -1,35 +1,35 @@
-use Rattle.std.proofs.Common.{refl, sym, ◌∙◌, ap, ◌≤◌, length, arith}
-use Rattle.smil_model.specs.document.Document.{node_at}
-use Rattle.smil_stretch.proofs.Idle.{node_found, node_known, node_inside, none_left}
+use Rattle.std.proofs.Common.{refl, sym, ◌∙◌, ap, ◌++◌, append-nil}
+use Rattle.std.specs.Prelude.{is_some}
 use Rattle.smil_model.proofs.Growing.{begins_by}
-use Rattle.smil_shown.proofs.LinesTold.{all_gone, gone_on}
-use Rattle.smil_tree.proofs.Families.{node_of_place}
+use Rattle.smil_tree.proofs.Walks.{is_found, walk_begun, walk_on, walk_over}
+use Rattle.smil_shown.specs.Told.{lines_gone}
+use Rattle.smil_shown.proofs.LineTexts.{begins_same}
+use Rattle.smil_shown.proofs.LinesTold.{gone_more}
 use Rattle.smil_shown.proofs.lines.put_all_gone.Goals as goal
 
 pub put_where_gone-requires : goal.put_where_gone-requires
-put_where_gone-requires c = node_known c.args.scene.tree.now.nodes c.in-Some.serial c.loop-serial.place c.valid.ensures.numbered.distinct c.in-Some.ensures
+put_where_gone-requires c = ap is_some (is_found c.args.scene.tree.now.nodes c.loop-node.node-iterator c.in-Some.node.now c.next.new.self c.loop-node.invariant.walk c.in-Some.ensures.steps c.valid.ensures.numbered.distinct)
 
-pub overflow_add-place : goal.overflow_add-place
-overflow_add-place c = omega (arith, node_inside c.args.scene.tree.now.nodes c.in-Some.serial c.loop-serial.place c.in-Some.ensures, c.valid.ensures.nodes)
+pub loop-node-init : goal.loop-node-init
+loop-node-init c = record {
+  walk = walk_begun _ _ (c.into_iter-node-iterator.ensures.into_iter_gives ∙ c.nodes-node-items.ensures);
+  told = sym (append-nil c.args.out.now);
+  begins = begins_same c.args.out.now c.args.out.now refl;
+}
 
-pub loop-serial-smaller : goal.loop-serial-smaller
-loop-serial-smaller c = omega (arith, node_inside c.args.scene.tree.now.nodes c.in-Some.serial c.loop-serial.place c.in-Some.ensures)
-
-pub loop-serial-preserved : goal.loop-serial-preserved
-loop-serial-preserved c =
+pub loop-node-preserved : goal.loop-node-preserved
+loop-node-preserved c =
     let nodes = c.args.scene.tree.now.nodes in
-    let k = c.loop-serial.place in
-    let found = node_found nodes c.in-Some.serial k c.in-Some.ensures in
-    let there = ap (node_at nodes) (sym found.serial) ∙ node_of_place nodes k found.node c.valid.ensures.numbered.distinct found.at in
+    let walk = c.loop-node.invariant.walk in
+    let node = c.in-Some.node.now in
+    let there = is_found nodes c.loop-node.node-iterator node c.next.new.self walk c.in-Some.ensures.steps c.valid.ensures.numbered.distinct in
     record {
-      told =
-          gone_on c.args.after.now.nodes _ nodes k found.node _ c.loop-serial.out _ found.at c.loop-serial.invariant.told
-          (c.in_ok-put_where_gone.ensures.ok found.node there);
-      begins = begins_by c.args.out.now c.loop-serial.out _ c.loop-serial.invariant.begins c.in_ok-put_where_gone.ensures.begins;
+      walk = walk_on nodes c.loop-node.node-iterator node c.next.new.self walk c.in-Some.ensures.steps;
+      told = gone_more c.args.after.now.nodes c.args.scene.moment walk.past node c.args.out.now c.loop-node.out _ c.loop-node.invariant.told (c.in_ok-put_where_gone.ensures.ok node there);
+      begins = begins_by c.args.out.now c.loop-node.out _ c.loop-node.invariant.begins c.in_ok-put_where_gone.ensures.begins;
     }
 
 pub returns-clause-ok : goal.returns-clause-ok
 returns-clause-ok c =
-    let nodes = c.args.scene.tree.now.nodes in
-    let left : length nodes ≤ c.loop-serial.place = none_left nodes c.loop-serial.place c.in_default.ensures in
-    all_gone c.args.after.now.nodes c.args.scene.moment _ nodes c.loop-serial.place c.args.out.now c.loop-serial.out refl left c.loop-serial.invariant.told
+    c.loop-node.invariant.told
+    ∙ ap (λ ns. c.args.out.now ++ lines_gone c.args.after.now.nodes c.args.scene.moment ns) (walk_over c.args.scene.tree.now.nodes c.loop-node.node-iterator c.loop-node.invariant.walk c.in-None.ensures.steps.0)

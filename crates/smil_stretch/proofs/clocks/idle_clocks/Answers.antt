@@ -1,36 +1,32 @@
-use Rattle.std.proofs.Common.{◌≡◌, ◌<◌, ◌≤◌, ◌+◌, ℕ, sym, ap, subst, ◌∙◌, Some, arith}
-use Rattle.std.specs.Prelude.{Option, slice_get, option_map, length, map, take, false, pos}
+use Rattle.std.proofs.Common.{ℕ, ap, ◌∙◌, map, false, pos}
+use Rattle.std.specs.Prelude.{Option, is_some}
 use Rattle.smil_stretch.specs.declared.clock.Clock.TheVariants.{Runs}
-use Rattle.std.proofs.lemmas.List.{take_all, length-map, length_push}
-use Rattle.smil_model.specs.declared.document.Node.{Node}
 use Rattle.smil_stretch.specs.declared.clock.NodeClock.{NodeClock}
-use Rattle.smil_stretch.specs.Clocks.{parent_place}
 use Rattle.smil_stretch.specs.NodeClocks.{idle_clock}
-use Rattle.smil_stretch.proofs.Idle.{node_known, fewer_left, one_more, all_listed}
+use Rattle.smil_tree.proofs.Walks.{is_found, mapped_on, walk_begun, walk_on, walk_over}
 use Rattle.smil_stretch.proofs.clocks.idle_clocks.Goals as goal
 
 -- an idle clock by its serial and the place of its time parent
 abbrev idle_at : ℕ → Option ℕ → NodeClock
 idle_at serial parent = record { serial = serial; parent = parent; paused = false; clock = Runs (pos 0) }
 
+pub loop-node-init : goal.loop-node-init
+loop-node-init c = (walk_begun _ _ (c.into_iter-node-iterator.ensures.into_iter_gives ∙ c.nodes-node-items.ensures), c.new-clocks.ensures.items)
+
 pub parent_place-requires : goal.parent_place-requires
-parent_place-requires c = node_known c.args.tree.now.nodes c.in-Some.serial _ c.requires.distinct c.in-Some.ensures
+parent_place-requires c = ap is_some (is_found c.args.tree.now.nodes c.loop-node.node-iterator c.in-Some.node.now c.next.new.self c.loop-node.invariant.0 c.in-Some.ensures.steps c.requires.distinct)
 
-pub loop-serial-smaller : goal.loop-serial-smaller
-loop-serial-smaller c =
-    fewer_left c.args.tree.now.nodes c.loop-serial.clocks.items c.len.result c.in-Some.serial _ _
-    (omega (arith, c.len.ensures, c.loop-serial.clocks.ok.0)) c.in-Some.ensures c.in_ok-push.ensures.items
-
-pub loop-serial-preserved : goal.loop-serial-preserved
-loop-serial-preserved c =
+pub loop-node-preserved : goal.loop-node-preserved
+loop-node-preserved c =
     let nodes = c.args.tree.now.nodes in
-    one_more nodes c.loop-serial.clocks.items c.len.result c.in-Some.serial _ _
-    (omega (arith, c.len.ensures, c.loop-serial.clocks.ok.0)) c.in-Some.ensures c.in_ok-push.ensures.items
-    (idle_clock nodes) c.loop-serial.invariant
-    (λ n e. ap (idle_at c.in-Some.serial) c.parent_place.ensures ∙ ap (λ x. idle_at x (parent_place nodes x)) (sym e))
+    let walk = c.loop-node.invariant.0 in
+    let node = c.in-Some.node.now in (
+      walk_on nodes c.loop-node.node-iterator node c.next.new.self walk c.in-Some.ensures.steps,
+      mapped_on (idle_clock nodes) walk.past node c.loop-node.clocks.items c.push.new.self.items (idle_at node.serial c.parent_place.result) c.loop-node.invariant.1 c.in_ok-push.ensures.items
+          (ap (idle_at node.serial) c.parent_place.ensures),
+    )
 
 pub returns : goal.returns
 returns c =
     let nodes = c.args.tree.now.nodes in
-    all_listed (idle_clock nodes) nodes c.loop-serial.clocks.items c.len.result
-    (omega (arith, c.len.ensures, c.loop-serial.clocks.ok.0)) c.in_default.ensures c.loop-serial.invariant
+    c.loop-node.invariant.1 ∙ ap (map (idle_clock nodes)) (walk_over nodes c.loop-node.node-iterator c.loop-node.invariant.0 c.in-None.ensures.steps.0)

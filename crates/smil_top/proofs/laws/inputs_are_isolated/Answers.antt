@@ -2,4 +2,4 @@ use Rattle.smil_top.proofs.Inputs.{alone_in_input}
 use Rattle.smil_top.proofs.laws.inputs_are_isolated.Goals as goal
 
 pub returns : goal.returns
-returns c = λ allowed name lines title few. alone_in_input allowed name lines title few
+returns c = λ allowed name lines is_name few. alone_in_input allowed name lines is_name few

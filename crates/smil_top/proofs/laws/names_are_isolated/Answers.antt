@@ -2,4 +2,4 @@ use Rattle.smil_top.proofs.Alone.{is_alone}
 use Rattle.smil_top.proofs.laws.names_are_isolated.Goals as goal
 
 pub returns : goal.returns
-returns c = λ allowed name tried title few. is_alone allowed name title tried few
+returns c = λ allowed name tried is_name few. is_alone allowed name is_name tried few

@@ -2,7 +2,7 @@ use Rattle.std.proofs.Common.{sym, ap, ◌∙◌, [], cond}
 use Rattle.std.specs.Prelude.{◌==◌}
 use Rattle.std.specs.List.{list_any}
 use Rattle.smil_model.specs.declared.document.Node.{Node}
-use Rattle.smil_tree.specs.Kin.{list_of}
+use Rattle.smil_model.specs.ListTables.{list_of}
 use Rattle.smil_tree.proofs.KinTables.{dropped_more}
 use Rattle.smil_tree.proofs.kin.forget.Goals as goal
 

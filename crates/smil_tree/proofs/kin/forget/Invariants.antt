@@ -2,7 +2,7 @@ use Rattle.std.proofs.Common.{◌≡◌, ℕ, [], cond, ◌==◌}
 use Rattle.std.specs.Prelude.{slice_range}
 use Rattle.std.specs.List.{list_any}
 use Rattle.smil_model.specs.declared.document.Node.{Node}
-use Rattle.smil_tree.specs.Kin.{list_of}
+use Rattle.smil_model.specs.ListTables.{list_of}
 use Rattle.smil_tree.proofs.kin.forget.Given as goal
 
 -- once the lists of those that are left are dropped, those of all of them are

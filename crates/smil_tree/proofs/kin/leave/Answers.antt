@@ -1,8 +1,8 @@
 use Rattle.std.proofs.Common.{sym, ap, subst, ◌∙◌, arith, Some, cond, filter}
 use Rattle.smil_tree.specs.Held.{cut}
-use Rattle.smil_tree.specs.Kin.{list_of}
 use Rattle.smil_model.specs.reach.Reach.{is_option}
 use Rattle.smil_model.specs.document.Document.{serials}
+use Rattle.smil_model.specs.ListTables.{list_of}
 use Rattle.smil_tree.proofs.KinLists.{before-rises, nothing_cut}
 use Rattle.smil_tree.proofs.KinTables.{IsTakenOut, taken_out, separated}
 use Rattle.smil_tree.proofs.kin.leave.Goals as goal

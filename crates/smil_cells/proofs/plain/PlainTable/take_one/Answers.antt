@@ -6,7 +6,7 @@ use Rattle.smil_cells.specs.Round.{StayUnchanged}
 use Rattle.smil_cells.proofs.Taking.{IsFound, found, has_row, own_first, placed, taken_by, unchanged_pushed, unchanged_same}
 use Rattle.smil_cells.proofs.plain.PlainTable.take_one.Given.{Over}
 use Rattle.smil_cells.proofs.plain.PlainTable.take_one.Goals as goal
-use Rattle.smil_cells.proofs.plain.PlainTable.take_one.Goals.{After-unwrap-index, then-not-is_same+in_ok-push, else-not-is_same}
+use Rattle.smil_cells.proofs.plain.PlainTable.take_one.Goals.{After-unwrap-index, then-not-is_same_interval+in_ok-push, else-not-is_same_interval}
 
 -- the element and its row
 found_row : (g : Over) (c : After-unwrap-index g) → IsFound c.args.present.now.past.now.document.nodes c.args.self.now.known c.args.present.now.who c.unwrap-index.result
@@ -42,12 +42,12 @@ returns-clause-changed g c =
     let at = found_row g (goal.at.returns-clause-changed g c).After-unwrap-index in
     let own = (c.in_ok-row.ensures.row at.element at.node).serial in
     let first = own_first _ rows _ c.unwrap-index.result row at own in
-    subst (λ after. StayUnchanged c.args.changed.now c.if-not-is_same.changed rows after) (sym c.put.ensures)
-    (elim c.if-not-is_same.branch [
-      | then-not-is_same+in_ok-push w ↦
-          unchanged_pushed c.args.changed.now c.if-not-is_same.changed rows c.unwrap-index.result row first
+    subst (λ after. StayUnchanged c.args.changed.now c.if-not-is_same_interval.changed rows after) (sym c.put.ensures)
+    (elim c.if-not-is_same_interval.branch [
+      | then-not-is_same_interval+in_ok-push w ↦
+          unchanged_pushed c.args.changed.now c.if-not-is_same_interval.changed rows c.unwrap-index.result row first
           (w.changed-is ∙ w.in_ok-push.ensures.ok ∙ ap (λ s. c.args.changed.now ++ s ∷ []) (sym (own ∙ at.is_who)))
-      | else-not-is_same w ↦
-          unchanged_same c.args.changed.now c.if-not-is_same.changed rows c.unwrap-index.result row first w.changed-is
-          (ap (interval_in rows) (own ∙ at.is_who) ∙ sym c.interval.ensures.value ∙ c.is_same.ensures w.if-not-is_same.false)
+      | else-not-is_same_interval w ↦
+          unchanged_same c.args.changed.now c.if-not-is_same_interval.changed rows c.unwrap-index.result row first w.changed-is
+          (ap (interval_in rows) (own ∙ at.is_who) ∙ sym c.interval.ensures.value ∙ c.is_same_interval.ensures.0 w.if-not-is_same_interval.false)
     ])

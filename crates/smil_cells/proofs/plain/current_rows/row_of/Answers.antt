@@ -1,10 +1,10 @@
 use Rattle.std.proofs.Common.{◌∙◌, ap, sym, ◌<◌, ◌≤◌, length, arith}
 use Rattle.std.proofs.lemmas.Option.{slice_get_within}
 use Rattle.smil_model.specs.document.Document.{elements}
+use Rattle.smil_model.specs.happening.Keys.{coming_by}
 use Rattle.smil_laws.proofs.Rounds.{find-serial}
 use Rattle.smil_instances.proofs.Targets.{element_of}
 use Rattle.smil_past.specs.Past.{history_of}
-use Rattle.smil_element.specs.Element.{coming_by}
 use Rattle.smil_cells.proofs.Taking.{elements_few, evaluated_near}
 use Rattle.smil_cells.proofs.plain.current_rows.row_of.Goals as goal
 

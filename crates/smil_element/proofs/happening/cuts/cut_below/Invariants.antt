@@ -1,6 +1,6 @@
 use Rattle.std.proofs.Common.{◌≡◌, ◌++◌}
-use Rattle.smil_model.specs.happening.Groups.{at_moment}
-use Rattle.smil_element.specs.Parts.{cut_steps, cuts_below}
+use Rattle.smil_model.specs.happening.Groups.{at_moment, cut_steps}
+use Rattle.smil_element.specs.Parts.{cuts_below}
 use Rattle.smil_element.proofs.happening.cuts.cut_below.Given as goal
 
 -- what is appended, and the cuts that are left, are all cuts

@@ -1,6 +1,6 @@
 use Rattle.std.proofs.Common.{◌∙◌, ap}
 use Rattle.std.specs.Prelude.{find}
-use Rattle.smil_element.specs.Parts.{is_playing_by}
+use Rattle.smil_model.specs.happening.Queue.{is_playing_by}
 use Rattle.smil_element.proofs.Finding.{playing_is}
 use Rattle.smil_element.proofs.happening.excl.playing_child.Goals as goal
 

@@ -59,6 +59,3 @@ returns-clause-most g c =
 pub staying-requires-clause-made : goal.staying-requires-clause-made
 staying-requires-clause-made g c =
     subst (λ (x : Document). IsMade c.args.self.now.document c.args.site x) (sym c.in_ok-graphed.ensures.tree) c.requires
-
-pub staying-requires-clause-doc : goal.staying-requires-clause-doc
-staying-requires-clause-doc g c = c.in_ok-doc.ensures.doc ∙ sym c.in_ok-graphed.ensures.tree

@@ -8,8 +8,8 @@ use Rattle.smil_live.specs.Sites.{IsMade, site_nodes, site_serial}
 use Rattle.smil_live.proofs.AgreedCells.{diary_kept}
 use Rattle.smil_live.proofs.presentation.PresentationOver.staying.Goals as goal
 
-pub edited_node-serial-requires-clause-made : goal.edited_node-serial-requires-clause-made
-edited_node-serial-requires-clause-made g c =
+pub edited_node-serial-requires : goal.edited_node-serial-requires
+edited_node-serial-requires g c =
     let same : c.tree.result.now ≡ c.args.self.now.document = c.tree.ensures ∙ ap (λ (q : Presentation). q.document) c.self.view_is in
     subst (λ (x : Document). IsMade x c.args.site c.args.graphed.now.tree) (sym same) c.requires.made
 

@@ -1,5 +1,6 @@
 use Rattle.std.proofs.Common.{◌∙◌, ap, sym}
 use Rattle.std.specs.Prelude.{Option, is_some}
+use Rattle.std.proofs.lemmas.Bool.{not-false}
 use Rattle.smil_model.specs.declared.interval.Interval.{Interval}
 use Rattle.smil_past.specs.Past.{history_of}
 use Rattle.smil_cells.proofs.Taking.{IsFound, found, has_row, own_first, own_interval, placed, taken_by}
@@ -40,7 +41,7 @@ pub returns-clause-same : goal.returns-clause-same
 returns-clause-same g c = λ same.
     let at = found_row g (goal.at.returns-clause-same g c).After-unwrap-index in
     own_interval _ c.args.self.now.schedule _ _ c.in_ok-row.row at (c.in_ok-row.ensures.row at.element at.node).serial c.replace.new.self.schedule c.in_ok-replace.ensures.put
-    ∙ sym (sym c.interval-before.ensures.value ∙ c.differ.ensures same)
+    ∙ sym (sym c.interval-before.ensures.value ∙ c.is_same_interval.ensures.0 (not-false c.is_same_interval.result same))
 
 pub returns-clause-ended : goal.returns-clause-ended
 returns-clause-ended g c =

@@ -1,20 +1,16 @@
-use Rattle.std.proofs.Common.{◌≡◌, sym, ◌∙◌, ap, subst, ◌+◌, List, Some, get_or, length, take, pos, arith}
+use Rattle.std.proofs.Common.{◌≡◌, sym, ◌∙◌, ap, subst, ◌+◌, List, Some, get_or, length, take, arith}
 use Rattle.std.specs.Prelude.{slice_get}
 use Rattle.std.proofs.lemmas.List.{take_all}
 use Rattle.std.proofs.lemmas.Option.{slice_get-get_or}
 use Rattle.smil_model.specs.declared.diary.Entry.{Entry}
-use Rattle.smil_model.specs.declared.diary.Step.TheVariants.{Began}
 use Rattle.smil_model.specs.diary.Diary.{History, up_to}
 use Rattle.smil_model.specs.diary.Lawful.{IsLawful}
 use Rattle.smil_stretch.proofs.Diaries.{lawful_first}
-use Rattle.smil_stretch.proofs.Idle.{next_first}
+use Rattle.smil_stretch.proofs.Idle.{next_first, no_entry}
 use Rattle.smil_model.proofs.Growing.{begins_by}
 use Rattle.smil_shown.specs.Histories.{IsTold}
 use Rattle.smil_shown.proofs.ToldIntervals.{near_at}
 use Rattle.smil_shown.proofs.interval_teller.IntervalTeller.follow_all.Goals as goal
-
-abbrev none : Entry
-none = record { moment = pos 0; step = Began 0 (pos 0) }
 
 pub follow-requires-clause-follows : goal.follow-requires-clause-follows
 follow-requires-clause-follows c =
@@ -22,9 +18,9 @@ follow-requires-clause-follows c =
     let past = may.past in
     let i = c.loop-entry.entry-index in
     let entries = c.entries-entry-items.result.now in
-    let entry = get_or entries i none in
+    let entry = get_or entries i no_entry in
     let at : slice_get past.diary i ≡ Some entry =
-    ap (λ (ds : List Entry). slice_get ds i) (may.same_diary ∙ sym c.entries-entry-items.ensures) ∙ slice_get-get_or entries i none c.loop-entry-test.true in
+    ap (λ (ds : List Entry). slice_get ds i) (may.same_diary ∙ sym c.entries-entry-items.ensures) ∙ slice_get-get_or entries i no_entry c.loop-entry-test.true in
     record {
       past = up_to past (take i past.diary);
       known = (c.loop-entry.invariant.told past may.start may.same_diary may.lawful may.nothing_told).clocks_are;
@@ -35,17 +31,17 @@ pub follow-requires-clause-near : goal.follow-requires-clause-near
 follow-requires-clause-near c =
     let i = c.loop-entry.entry-index in
     let entries = c.entries-entry-items.result.now in
-    near_at c.args.book.now i (get_or entries i none) c.requires.near (ap (λ (ds : List Entry). slice_get ds i) (sym c.entries-entry-items.ensures) ∙ slice_get-get_or entries i none c.loop-entry-test.true)
+    near_at c.args.book.now i (get_or entries i no_entry) c.requires.near (ap (λ (ds : List Entry). slice_get ds i) (sym c.entries-entry-items.ensures) ∙ slice_get-get_or entries i no_entry c.loop-entry-test.true)
 
 pub loop-entry-preserved : goal.loop-entry-preserved
 loop-entry-preserved c =
     let i = c.loop-entry.entry-index in
     let entries = c.entries-entry-items.result.now in
-    let entry = get_or entries i none in
+    let entry = get_or entries i no_entry in
     record {
       told = λ h start same lawful nothing.
           let at : slice_get h.diary i ≡ Some entry =
-          ap (λ (ds : List Entry). slice_get ds i) (same ∙ sym c.entries-entry-items.ensures) ∙ slice_get-get_or entries i none c.loop-entry-test.true in
+          ap (λ (ds : List Entry). slice_get ds i) (same ∙ sym c.entries-entry-items.ensures) ∙ slice_get-get_or entries i no_entry c.loop-entry-test.true in
           let next = next_first h i entry at in
           let P : History → Type 0 = λ k. IsTold k c.args.name.now start c.follow.new.self c.follow.new.out in
           subst P next

@@ -1,6 +1,4 @@
-use Rattle.std.proofs.Common.{◌≡◌, ℕ, List, sym, ap, subst, ◌∙◌, Some, take, ◌+◌, ◌<◌, length, get_or}
-use Rattle.std.specs.Prelude.{slice_get}
-use Rattle.smil_model.specs.declared.diary.Entry.{Entry}
+use Rattle.std.proofs.Common.{sym, subst, ◌∙◌, take, ◌+◌}
 use Rattle.smil_model.specs.diary.Diary.{up_to}
 use Rattle.smil_model.specs.diary.Lawful.{IsLawful}
 use Rattle.smil_stretch.specs.Clocks.{AreClocksOf}

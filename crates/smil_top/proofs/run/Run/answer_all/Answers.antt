@@ -1,13 +1,17 @@
-use Rattle.std.proofs.Common.{ℕ, ◌-◌, List, [], ◌∷◌, ◌++◌, Option, Some, Bor, false, refl, ap, sym, subst, ◌∙◌, arith, inl, inr}
-use Rattle.std.specs.Prelude.{option_map}
-use Rattle.smil_top.specs.Cut.{cut_of}
-use Rattle.smil_top.specs.Transcript.{untold}
-use Rattle.smil_top.specs.Running.{IsRunning}
+use Rattle.std.proofs.Common.{◌≡◌, ℕ, suc, ◌-◌, List, [], ◌∷◌, ◌++◌, Option, Some, Bor, Bool, false, refl, ap, sym, subst, ◌∙◌, arith, inl, inr}
+use Rattle.std.specs.Prelude.{IsNone, option_map}
+use Rattle.smil_outside.specs.declared.line.Line.{Line}
+use Rattle.smil_outside.specs.declared.line.Line.TheVariants.{End, InputTooLong, ReadFault}
+use Rattle.smil_top.specs.Cut.{cut_of, with_line}
+use Rattle.smil_top.specs.Transcript.{TranscriptState, untold}
+use Rattle.smil_top.specs.Running.{Answers, IsLine, IsRunning}
 use Rattle.smil_top.proofs.Evaluated.{evaluated-fresh, evaluated-next}
-use Rattle.smil_top.proofs.Serving.{Nexts, Nexts-of, Hands, next-line, fault-open, HasRead, HasRead-fresh, IsServing-of, Wrote-fresh, Wrote-next, RanCounted-end, RanCounted-untold, Ran-too_long, Ran-fault, Ran-unwritten}
+use Rattle.smil_top.proofs.Serving.{Nexts, Nexts-of, Hands, next-line, fault-open, HasRead, HasRead-fresh, IsServing, IsServing-of, Wrote-fresh, Wrote-next, RanCounted-end, RanCounted-untold, Ran-too_long, Ran-fault, Ran-unwritten}
 use Rattle.smil_live.proofs.EditedPresentations.{where_err}
 use Rattle.smil_top.proofs.Writing.{risen-from}
+use Rattle.smil_top.proofs.run.Run.answer_all.Given.{Over}
 use Rattle.smil_top.proofs.run.Run.answer_all.Goals as goal
+use Rattle.smil_top.proofs.run.Run.answer_all.Goals.{After-line, After-next}
 use Rattle.smil_top.proofs.run.Run.answer_all.Goals.{in-Bytes, in-LongLine}
 
 -- the line that the reader shows
@@ -29,231 +33,97 @@ lines-init g c =
       evaluated = λ begun. evaluated-fresh c.args.self.now.counts c.args.steps.now;
     }
 
+module _ (g : Over) (c : After-next g) where
+  -- what the reader answered
+  nexts : (answer : Line) → c.next.result ≡ answer → Nexts c.lines.reader c.next.new.self answer (g.S.Source.rest c.lines.source) (g.S.Source.rest c.next.new.source)
+  nexts answer is =
+      subst (λ a. Nexts c.lines.reader c.next.new.self a (g.S.Source.rest c.lines.source) (g.S.Source.rest c.next.new.source)) is
+      (Nexts-of g.S.Source.rest c.lines.source c.next.new.source c.lines.reader c.next.new.self c.next.result c.lines.invariant.read.has.unbroken c.next.ensures.again c.next.ensures.reads)
+
+  -- a read that failed was made before the end
+  open-yet : c.next.result ≡ ReadFault → IsNone c.lines.reader.closed
+  open-yet is = fault-open c.lines.reader c.next.new.self (g.S.Source.rest c.lines.source) (g.S.Source.rest c.next.new.source) (nexts ReadFault is)
+
+  -- what stands between the lines before it and it
+  serving : (checks : Bool) → IsRunning checks c.args.self.now (cut_of []) untold
+      → IsServing checks c.lines.reader c.lines.self (g.S.Source.rest c.args.source.now) (g.S.Source.rest c.lines.source) (g.K.Sink.taken c.args.sink.now) (g.K.Sink.taken c.lines.sink) (g.K.Sink.sure_room c.args.sink.now) (g.K.Sink.sure_room c.lines.sink)
+  serving checks begun =
+      IsServing-of checks c.lines.reader c.lines.self (g.S.Source.rest c.args.source.now) (g.S.Source.rest c.lines.source) (g.K.Sink.taken c.args.sink.now) (g.K.Sink.taken c.lines.sink)
+      (g.K.Sink.sure_room c.args.sink.now) (g.K.Sink.sure_room c.lines.sink) c.lines.invariant.read (c.lines.invariant.wrote checks begun)
+
 pub returns-in-End-clause-evaluated : goal.returns-in-End-clause-evaluated
+unfolding serving
 returns-in-End-clause-evaluated g c checks begun =
-    let rest = g.S.Source.rest in
     let read = c.lines.invariant.read in
-    let e = c.next.ensures in
-    let nexts = Nexts-of rest c.lines.source c.next.new.source c.lines.reader c.next.new.self c.next.result read.has.unbroken e.again e.reads in
-    let serving = IsServing-of
-    checks
-    c.lines.reader
-    c.lines.self
-    (rest c.args.source.now)
-    (rest c.lines.source)
-    (g.K.Sink.taken c.args.sink.now)
-    (g.K.Sink.taken c.lines.sink)
-    (g.K.Sink.sure_room c.args.sink.now)
-    (g.K.Sink.sure_room c.lines.sink)
-    read
-    (c.lines.invariant.wrote checks begun) in
-    RanCounted-end
-    checks
-    c.lines.reader
-    c.next.new.self
-    c.lines.self
-    c.end.new.run
-    (rest c.args.source.now)
-    (rest c.lines.source)
-    (rest c.next.new.source)
-    (g.K.Sink.taken c.args.sink.now)
-    (g.K.Sink.taken c.lines.sink)
-    (g.K.Sink.taken c.end.new.sink)
-    (g.K.Sink.sure_room c.args.sink.now)
-    (g.K.Sink.sure_room c.lines.sink)
-    (g.K.Sink.sure_room c.end.new.sink)
-    serving
-    c.end.result
-    (subst (λ a. Nexts c.lines.reader c.next.new.self a (rest c.lines.source) (rest c.next.new.source)) c.in-End.is nexts)
-    c.end.ensures.ends
-    (c.lines.steps - c.args.steps.now)
-    (λ runs. c.end.ensures.evaluated (cut_of read.answered) serving.told c.args.steps.now c.lines.steps
-    (subst (λ k. IsRunning k c.lines.self (cut_of read.answered) serving.told) runs serving.writing.running)
+    let here = serving g (goal.at.returns-in-End-clause-evaluated g c).After-next checks begun in
+    RanCounted-end here c.end.result (nexts g (goal.at.returns-in-End-clause-evaluated g c).After-next End c.in-End.is) c.end.ensures.ends (c.lines.steps - c.args.steps.now)
+    (λ runs. c.end.ensures.evaluated (cut_of read.answered) here.told c.args.steps.now c.lines.steps
+    (subst (λ k. IsRunning k c.lines.self (cut_of read.answered) here.told) runs here.writing.running)
     (c.lines.invariant.evaluated (subst (λ k. IsRunning k c.args.self.now (cut_of []) untold) runs begun)))
 
 pub returns-in-End-clause-ran : goal.returns-in-End-clause-ran
 returns-in-End-clause-ran g c checks begun = (returns-in-End-clause-evaluated g c checks begun).ran
 
 pub returns-in-InputTooLong-clause-ran : goal.returns-in-InputTooLong-clause-ran
-returns-in-InputTooLong-clause-ran g c checks begun =
-    let rest = g.S.Source.rest in
-    let read = c.lines.invariant.read in
-    let e = c.next.ensures in
-    let nexts = Nexts-of rest c.lines.source c.next.new.source c.lines.reader c.next.new.self c.next.result read.has.unbroken e.again e.reads in
-    let taken = g.K.Sink.taken c.lines.sink in
-    let left = g.K.Sink.sure_room c.lines.sink in
-    let serving = IsServing-of
-    checks
-    c.lines.reader
-    c.lines.self
-    (rest c.args.source.now)
-    (rest c.lines.source)
-    (g.K.Sink.taken c.args.sink.now)
-    taken
-    (g.K.Sink.sure_room c.args.sink.now)
-    left
-    read
-    (c.lines.invariant.wrote checks begun) in
-    Ran-too_long
-    checks
-    c.lines.reader
-    c.next.new.self
-    c.lines.self
-    c.lines.self
-    (rest c.args.source.now)
-    (rest c.lines.source)
-    (rest c.next.new.source)
-    (g.K.Sink.taken c.args.sink.now)
-    taken
-    taken
-    (g.K.Sink.sure_room c.args.sink.now)
-    left
-    left
-    serving
-    (subst (λ a. Nexts c.lines.reader c.next.new.self a (rest c.lines.source) (rest c.next.new.source)) c.in-InputTooLong.is nexts)
+returns-in-InputTooLong-clause-ran g c checks begun = Ran-too_long (serving g (goal.at.returns-in-InputTooLong-clause-ran g c).After-next checks begun) (nexts g (goal.at.returns-in-InputTooLong-clause-ran g c).After-next InputTooLong c.in-InputTooLong.is)
 
 pub returns-in-InputTooLong-clause-evaluated : goal.returns-in-InputTooLong-clause-evaluated
 returns-in-InputTooLong-clause-evaluated g c checks begun = RanCounted-untold refl (returns-in-InputTooLong-clause-ran g c checks begun)
 
 pub returns-in-ReadFault-clause-ran : goal.returns-in-ReadFault-clause-ran
-returns-in-ReadFault-clause-ran g c checks begun =
-    let rest = g.S.Source.rest in
-    let read = c.lines.invariant.read in
-    let e = c.next.ensures in
-    let nexts = Nexts-of rest c.lines.source c.next.new.source c.lines.reader c.next.new.self c.next.result read.has.unbroken e.again e.reads in
-    let taken = g.K.Sink.taken c.lines.sink in
-    let left = g.K.Sink.sure_room c.lines.sink in
-    let serving = IsServing-of
-    checks
-    c.lines.reader
-    c.lines.self
-    (rest c.args.source.now)
-    (rest c.lines.source)
-    (g.K.Sink.taken c.args.sink.now)
-    taken
-    (g.K.Sink.sure_room c.args.sink.now)
-    left
-    read
-    (c.lines.invariant.wrote checks begun) in
-    Ran-fault
-    checks
-    c.lines.reader
-    c.next.new.self
-    c.lines.self
-    c.lines.self
-    (rest c.args.source.now)
-    (rest c.lines.source)
-    (rest c.next.new.source)
-    (g.K.Sink.taken c.args.sink.now)
-    taken
-    taken
-    (g.K.Sink.sure_room c.args.sink.now)
-    left
-    left
-    serving
-    (subst (λ a. Nexts c.lines.reader c.next.new.self a (rest c.lines.source) (rest c.next.new.source)) c.in-ReadFault.is nexts)
+returns-in-ReadFault-clause-ran g c checks begun = Ran-fault (serving g (goal.at.returns-in-ReadFault-clause-ran g c).After-next checks begun) (nexts g (goal.at.returns-in-ReadFault-clause-ran g c).After-next ReadFault c.in-ReadFault.is)
 
 pub returns-in-ReadFault-clause-evaluated : goal.returns-in-ReadFault-clause-evaluated
 returns-in-ReadFault-clause-evaluated g c checks begun = RanCounted-untold refl (returns-in-ReadFault-clause-ran g c checks begun)
 
 pub returns-in-ReadFault-clause-read_cause : goal.returns-in-ReadFault-clause-read_cause
 returns-in-ReadFault-clause-read_cause g c = λ same.
-    let rest = g.S.Source.rest in
     let faults = g.S.Source.faults in
-    let e = c.next.ensures in
-    let nexts = Nexts-of rest c.lines.source c.next.new.source c.lines.reader c.next.new.self c.next.result c.lines.invariant.read.has.unbroken e.again e.reads in
-    let is_open = fault-open c.lines.reader c.next.new.self (rest c.lines.source) (rest c.next.new.source) (subst (λ a. Nexts c.lines.reader c.next.new.self a (rest c.lines.source) (rest c.next.new.source)) c.in-ReadFault.is nexts) in
-    risen-from (faults c.args.source.now) (faults c.lines.source) (faults c.next.new.source) c.lines.invariant.reads (e.cause c.in-ReadFault.is is_open)
+    risen-from (faults c.args.source.now) (faults c.lines.source) (faults c.next.new.source) c.lines.invariant.reads (c.next.ensures.cause c.in-ReadFault.is (open-yet g (goal.at.returns-in-ReadFault-clause-read_cause g c).After-next c.in-ReadFault.is))
 
 pub returns-in-ReadFault-clause-sure : goal.returns-in-ReadFault-clause-sure
-returns-in-ReadFault-clause-sure g c = λ never same.
-    let rest = g.S.Source.rest in
-    let e = c.next.ensures in
-    let nexts = Nexts-of rest c.lines.source c.next.new.source c.lines.reader c.next.new.self c.next.result c.lines.invariant.read.has.unbroken e.again e.reads in
-    let is_open = fault-open c.lines.reader c.next.new.self (rest c.lines.source) (rest c.next.new.source) (subst (λ a. Nexts c.lines.reader c.next.new.self a (rest c.lines.source) (rest c.next.new.source)) c.in-ReadFault.is nexts) in
-    (e.sure (c.lines.invariant.sure never)).1 is_open c.in-ReadFault.is
+returns-in-ReadFault-clause-sure g c = λ never same. (c.next.ensures.sure (c.lines.invariant.sure never)).1 (open-yet g (goal.at.returns-in-ReadFault-clause-sure g c).After-next c.in-ReadFault.is) c.in-ReadFault.is
+
+module _ (g : Over) (c : After-line g) (next : Nexts c.lines.reader c.next.new.self c.next.result (g.S.Source.rest c.lines.source) (g.S.Source.rest c.next.new.source)) where
+  -- a line that the reader shows, or one that is too long
+  hands : Hands c.next.new.self c.next.result (shown c.match-next.text)
+  hands = elim c.match-next.branch [
+    | in-Bytes w ↦ inl (w.in-Bytes.is, ap shown w.text-is ∙ ap Some w.bytes.ensures)
+    | in-LongLine w ↦ inr (w.in-LongLine.is, ap shown w.text-is)
+  ]
+
+  -- the line that was read
+  line : (came : List ℕ) × (line : List ℕ) × HasRead c.next.new.self (g.S.Source.rest c.args.source.now) (g.S.Source.rest c.next.new.source) came (c.lines.invariant.read.answered ++ line ∷ [])
+      × IsLine (shown c.match-next.text) line × (c.next.new.self.number ≡ suc (cut_of c.lines.invariant.read.answered).count)
+  line = next-line c.lines.invariant.read.has c.next.result (shown c.match-next.text) next hands
+
+  -- what it is answered
+  answers : (checks : Bool) (told : TranscriptState) → IsRunning checks c.lines.self (cut_of c.lines.invariant.read.answered) told
+      → Answers checks c.line.result c.line.new.self (with_line (cut_of c.lines.invariant.read.answered) line.1) told (g.K.Sink.taken c.lines.sink) (g.K.Sink.taken c.line.new.sink) (g.K.Sink.sure_room c.lines.sink) (g.K.Sink.sure_room c.line.new.sink)
+  answers checks told running = c.line.ensures.answers checks (cut_of c.lines.invariant.read.answered) told line.1 running (c.number-number.ensures.value ∙ line.4) line.3
 
 pub returns-then-is_err-clause-ran : goal.returns-then-is_err-clause-ran
 returns-then-is_err-clause-ran g c checks begun =
-    let rest = g.S.Source.rest in
-    let read = c.lines.invariant.read in
-    let e = c.next.ensures in
-    let old = c.lines.reader in
-    let new = c.next.new.self in
-    let nexts = Nexts-of rest c.lines.source c.next.new.source old new c.next.result read.has.unbroken e.again e.reads in
-    let text = shown c.match-next.text in
-    let hands : Hands old new (rest c.args.source.now) (rest c.lines.source) (rest c.next.new.source) read.came read.answered read.has c.next.result text = elim c.match-next.branch [
-      | in-Bytes w ↦ inl (w.in-Bytes.is, ap shown w.text-is ∙ ap Some w.bytes.ensures)
-      | in-LongLine w ↦ inr (w.in-LongLine.is, ap shown w.text-is)
-    ] in
-    let n = next-line old new (rest c.args.source.now) (rest c.lines.source) (rest c.next.new.source) read.came read.answered read.has c.next.result text nexts hands in
+    let at = goal.at.returns-then-is_err-clause-ran g c in
+    let next = nexts g at.After-next c.next.result refl in
     let w = c.lines.invariant.wrote checks begun in
-    let a = c.line.ensures.answers checks (cut_of read.answered) w.0 n.1 w.1.running (c.number-number.ensures.value ∙ n.4) n.3 in
-    Ran-unwritten
-    checks
-    new
-    c.line.new.self
-    (rest c.args.source.now)
-    (rest c.next.new.source)
-    (g.K.Sink.taken c.args.sink.now)
-    (g.K.Sink.taken c.lines.sink)
-    (g.K.Sink.taken c.line.new.sink)
-    (g.K.Sink.sure_room c.args.sink.now)
-    (g.K.Sink.sure_room c.lines.sink)
-    (g.K.Sink.sure_room c.line.new.sink)
-    n.0
-    n.1
-    w.0
-    read.answered
-    n.2
-    w.1.written
-    c.line.result
-    (sym c.is_err.ensures.value ∙ c.if-is_err.true)
-    a
+    Ran-unwritten (g.K.Sink.taken c.args.sink.now) c.lines.invariant.read.answered (line g at.After-line next).1 (line g at.After-line next).2 w.1.written c.line.result (sym c.is_err.ensures.value ∙ c.if-is_err.true) (answers g at.After-line next checks w.0 w.1.running)
 
 pub returns-then-is_err-clause-evaluated : goal.returns-then-is_err-clause-evaluated
 returns-then-is_err-clause-evaluated g c checks begun = RanCounted-untold refl (returns-then-is_err-clause-ran g c checks begun)
 
 pub lines-preserved : goal.lines-preserved
 lines-preserved g c =
-    let rest = g.S.Source.rest in
     let read = c.lines.invariant.read in
     let e = c.next.ensures in
-    let old = c.lines.reader in
-    let new = c.next.new.self in
-    let nexts = Nexts-of rest c.lines.source c.next.new.source old new c.next.result read.has.unbroken e.again e.reads in
-    let text = shown c.match-next.text in
-    let hands : Hands old new (rest c.args.source.now) (rest c.lines.source) (rest c.next.new.source) read.came read.answered read.has c.next.result text = elim c.match-next.branch [
-      | in-Bytes w ↦ inl (w.in-Bytes.is, ap shown w.text-is ∙ ap Some w.bytes.ensures)
-      | in-LongLine w ↦ inr (w.in-LongLine.is, ap shown w.text-is)
-    ] in
-    let n = next-line old new (rest c.args.source.now) (rest c.lines.source) (rest c.next.new.source) read.came read.answered read.has c.next.result text nexts hands in
+    let at = goal.at.lines-preserved g c in
+    let next = nexts g at.After-next c.next.result refl in
+    let n = line g at.After-line next in
     record {
       read = record { came = n.0; answered = read.answered ++ n.1 ∷ []; has = n.2 };
       wrote = λ checks begun.
           let w = c.lines.invariant.wrote checks begun in
-          let a = c.line.ensures.answers checks (cut_of read.answered) w.0 n.1 w.1.running (c.number-number.ensures.value ∙ n.4) n.3 in
-          Wrote-next
-          checks
-          new
-          c.line.new.self
-          (rest c.args.source.now)
-          (rest c.next.new.source)
-          (g.K.Sink.taken c.args.sink.now)
-          (g.K.Sink.taken c.lines.sink)
-          (g.K.Sink.taken c.line.new.sink)
-          (g.K.Sink.sure_room c.args.sink.now)
-          (g.K.Sink.sure_room c.lines.sink)
-          (g.K.Sink.sure_room c.line.new.sink)
-          n.0
-          n.1
-          w.0
-          read.answered
-          n.2
-          w.1.written
-          c.line.result
-          (sym c.is_err.ensures.value ∙ c.if-is_err.false)
-          a;
+          Wrote-next (g.K.Sink.taken c.args.sink.now) read.answered n.1 n.2 w.1.written c.line.result (sym c.is_err.ensures.value ∙ c.if-is_err.false) (answers g at.After-line next checks w.0 w.1.running);
       reads = omega (arith, c.lines.invariant.reads, e.count);
       writes = omega (arith, c.lines.invariant.writes, c.line.ensures.count);
       sure = λ never. (e.sure (c.lines.invariant.sure never)).0;

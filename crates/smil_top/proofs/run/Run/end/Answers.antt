@@ -1,9 +1,9 @@
-use Rattle.std.proofs.Common.{[], ◌∷◌, ◌++◌, Option, None, Err, false, refl, arith, sym, subst, ◌∙◌}
+use Rattle.std.proofs.Common.{◌++◌, Option, None, Err, false, refl, arith, sym, subst, ◌∙◌}
 use Rattle.smil_model.specs.declared.order.Refusal.TheVariants.{UnfinishedLoad}
 use Rattle.smil_top.specs.declared.fault.Fault.{Fault}
-use Rattle.smil_top.specs.Cut.{OrderLines, LoadLines, load as load_order, unended}
+use Rattle.smil_top.specs.Cut.{LoadLines, load as load_order, unended}
 use Rattle.smil_top.specs.Evaluations.{number_of}
-use Rattle.smil_top.specs.Running.{AnswersOrders, EvaluatesOn, MakesAnswer, answering}
+use Rattle.smil_top.specs.Running.{AnswersOrders, EvaluatesOn}
 use Rattle.smil_top.proofs.Evaluated.{counted-fault, evaluated-ended, evaluated-more}
 use Rattle.smil_top.proofs.Tells.{load-of, no_load-of, unfinished-made, told-order}
 use Rattle.smil_top.proofs.run.Run.end.Goals as goal
@@ -14,35 +14,12 @@ returns-in-Some-clause-answers g c checks cut told running =
     let load = c.in-Some.load in
     let found = load-of load run.load cut.«open» running.load (sym c.take.ensures.value ∙ c.in-Some.is) in
     let fault : Fault = record { line = load.line; refusal = UnfinishedLoad } in
-    let order : OrderLines = load_order found.0 None in
-    let made : MakesAnswer (Err fault) run.answer run.session.house told.session (answering checks) order =
-    unfinished-made checks run.answer run.session.house told.session found.0 load.line found.2.line running.tells.holds
-    in
-    let answers = told-order
-    checks
-    run
-    c.tell.new.self
-    run.session
-    cut.whole
-    told
-    order
-    (Err fault)
-    run.answer
-    c.tell.result
-    (g.K.Sink.taken c.args.sink.now)
-    (g.K.Sink.taken c.tell.new.sink)
-    (g.K.Sink.sure_room c.args.sink.now)
-    (g.K.Sink.sure_room c.tell.new.sink)
-    running.tells
-    made
-    c.tell.ensures.session
-    refl
-    c.tell.ensures.counts
-    c.tell.ensures.writes in
     subst
     (λ (o : Option LoadLines). AnswersOrders checks c.tell.result c.tell.new.self (cut.whole ++ unended o) told (g.K.Sink.taken c.args.sink.now) (g.K.Sink.taken c.tell.new.sink) (g.K.Sink.sure_room c.args.sink.now) (g.K.Sink.sure_room c.tell.new.sink))
     (sym found.1)
-    answers
+    (told-order run.session (load_order found.0 None) (Err fault) run.answer running.tells
+    (unfinished-made checks run.answer run.session.house told.session found.0 load.line found.2.line running.tells.holds)
+    c.tell.ensures.session refl c.tell.ensures.counts c.tell.ensures.writes)
 
 pub returns-in-Some-clause-evaluated : goal.returns-in-Some-clause-evaluated
 returns-in-Some-clause-evaluated g c cut told steps running =
@@ -50,17 +27,11 @@ returns-in-Some-clause-evaluated g c cut told steps running =
     let load = c.in-Some.load in
     let found = load-of load run.load cut.«open» running.load (sym c.take.ensures.value ∙ c.in-Some.is) in
     let fault : Fault = record { line = load.line; refusal = UnfinishedLoad } in
-    let order : OrderLines = load_order found.0 None in
-    let made : MakesAnswer (Err fault) run.answer run.session.house told.session (answering false) order =
-    unfinished-made false run.answer run.session.house told.session found.0 load.line found.2.line running.tells.holds
-    in
-    let on : EvaluatesOn run.counts c.tell.new.self.counts cut.whole (cut.whole ++ order ∷ []) steps steps =
-    evaluated-more run c.tell.new.self.counts cut.whole told order (Err fault) run.answer run.session.house steps steps running.tells made
-    (counted-fault fault (λ bound. number_of bound told.session order) steps)
-    (omega arith)
-    c.tell.ensures.counts
-    in
-    subst (λ (o : Option LoadLines). EvaluatesOn run.counts c.tell.new.self.counts cut.whole (cut.whole ++ unended o) steps steps) (sym found.1) on
+    let order = load_order found.0 None in
+    subst (λ (o : Option LoadLines). EvaluatesOn run.counts c.tell.new.self.counts cut.whole (cut.whole ++ unended o) steps steps) (sym found.1)
+    (evaluated-more order (Err fault) run.answer run.session.house steps steps running.tells
+    (unfinished-made false run.answer run.session.house told.session found.0 load.line found.2.line running.tells.holds)
+    (counted-fault fault (λ bound. number_of bound told.session order) steps) (omega arith) c.tell.ensures.counts)
 
 pub returns-in-None-clause-evaluated : goal.returns-in-None-clause-evaluated
 returns-in-None-clause-evaluated g c cut told steps running =

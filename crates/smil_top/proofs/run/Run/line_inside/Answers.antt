@@ -4,7 +4,7 @@ use Rattle.std.proofs.KnownBytes.{Appends-nil}
 use Rattle.smil_grammar.specs.Scripts.{is_blank}
 use Rattle.smil_script.specs.Loads.{ends_load}
 use Rattle.smil_top.specs.declared.run.Run.{Run}
-use Rattle.smil_top.specs.Cut.{NumberedLine, LoadLines, load, with_line}
+use Rattle.smil_top.specs.Cut.{NumberedLine, LoadLines, with_line}
 use Rattle.smil_top.specs.Running.{IsLine}
 use Rattle.smil_top.proofs.CutLines.{cut-ends, cut-long_node, cut-node}
 use Rattle.smil_top.proofs.Tells.{Shows, running-order, running-load, tells-on}
@@ -18,21 +18,7 @@ returns-in-Some-clause-answers g c checks cut lines told line within read tells 
     let same : line ≡ c.in-Some.text.now = is.0 in
     let short : length line ≤ LINE_BYTES = subst (λ zs. length zs ≤ LINE_BYTES) (sym same) is.1 in
     let ended : ends_load line ≡ true = ap ends_load same ∙ sym c.ends_load.ensures ∙ c.if-ends_load.true in
-    running-order
-    checks
-    c.end_load.result
-    c.end_load.new.self
-    (with_line cut line)
-    count
-    (cut.whole ++ load lines (Some count) ∷ [])
-    told
-    (g.K.Sink.taken c.args.sink.now)
-    (g.K.Sink.taken c.end_load.new.sink)
-    (g.K.Sink.sure_room c.args.sink.now)
-    (g.K.Sink.sure_room c.end_load.new.sink)
-    (cut-ends cut count line number lines within short ended)
-    (c.end_load.ensures.load ∙ c.requires.outside)
-    (c.end_load.ensures.answers checks cut.whole lines told read tells)
+    running-order (cut-ends cut count line number lines within short ended) (c.end_load.ensures.load ∙ c.requires.outside) (c.end_load.ensures.answers checks cut.whole lines told read tells)
 
 pub returns-in_default-clause-answers : goal.returns-in_default-clause-answers
 returns-in_default-clause-answers g c checks cut lines told line within read tells number shows =
@@ -54,19 +40,4 @@ returns-in_default-clause-answers g c checks cut lines told line within read tel
       | in_default-via-in_default w ↦
           cut-long_node cut count line number lines within (subst (λ o. Shows o line) w.in_default.is shows)
     ] in
-    running-load
-    checks
-    new
-    c.push.result
-    (with_line cut line)
-    count
-    cut.whole
-    more
-    told
-    (g.K.Sink.taken c.args.sink.now)
-    (g.K.Sink.sure_room c.args.sink.now)
-    read_on
-    refl
-    (c.push.ensures lines line read shows)
-    (tells-on checks run new cut.whole told refl refl tells)
-    (Appends-nil (g.K.Sink.taken c.args.sink.now), omega arith)
+    running-load read_on refl (c.push.ensures lines line read shows) (tells-on checks run new cut.whole told refl refl tells) (Appends-nil (g.K.Sink.taken c.args.sink.now), omega arith)

@@ -7,7 +7,7 @@ use Rattle.smil_top.specs.declared.fault.Fault.{Fault}
 use Rattle.smil_top.specs.declared.run.Run.{Run}
 use Rattle.smil_top.specs.Cut.{OrderLines, NumberedLine, LoadLines, single, with_line}
 use Rattle.smil_top.specs.Evaluations.{number_of}
-use Rattle.smil_top.specs.Running.{IsRead, IsLine, MakesAnswer, answering}
+use Rattle.smil_top.specs.Running.{IsRead, IsLine}
 use Rattle.smil_top.proofs.CutLines.{cut-long, cut-opens}
 use Rattle.smil_top.proofs.Evaluated.{counted-fault, evaluated-cut, evaluated-more}
 use Rattle.smil_top.proofs.Tells.{Shows, long-made, told-order, running-order, running-load, tells-on}
@@ -17,52 +17,11 @@ pub returns-in-None-clause-answers : goal.returns-in-None-clause-answers
 returns-in-None-clause-answers g c checks cut told line out tells number shows =
     let run : Run = c.args.self.now in
     let count : ℕ = c.args.next.now.number in
-    let before = g.K.Sink.taken c.args.sink.now in
-    let after = g.K.Sink.taken c.tell.new.sink in
-    let room = g.K.Sink.sure_room c.args.sink.now in
-    let left = g.K.Sink.sure_room c.tell.new.sink in
     let long : LINE_BYTES < length line = subst (λ o. Shows o line) c.in-None.is shows in
     let fault : Fault = record { line = count; refusal = LongLine } in
     let order : OrderLines = single (record { number = count; text = line }) in
-    let made : MakesAnswer (Err fault) run.answer run.session.house told.session (answering checks) order =
-    long-made checks run.answer run.session.house told.session count line long tells.holds
-    in
-    let answers = told-order
-    checks
-    run
-    c.tell.new.self
-    run.session
-    cut.whole
-    told
-    order
-    (Err fault)
-    run.answer
-    c.tell.result
-    before
-    after
-    room
-    left
-    tells
-    made
-    c.tell.ensures.session
-    refl
-    c.tell.ensures.counts
-    c.tell.ensures.writes in
-    running-order
-    checks
-    c.tell.result
-    c.tell.new.self
-    (with_line cut line)
-    count
-    (cut.whole ++ order ∷ [])
-    told
-    before
-    after
-    room
-    left
-    (cut-long cut count line number out long)
-    (c.tell.ensures.load ∙ c.requires.outside)
-    answers
+    running-order (cut-long cut count line number out long) (c.tell.ensures.load ∙ c.requires.outside)
+    (told-order run.session order (Err fault) run.answer tells (long-made checks run.answer run.session.house told.session count line long tells.holds) c.tell.ensures.session refl c.tell.ensures.counts c.tell.ensures.writes)
 
 pub returns-in-Some-clause-answers : goal.returns-in-Some-clause-answers
 returns-in-Some-clause-answers g c checks cut told line out tells number shows =
@@ -78,35 +37,16 @@ returns-in-Some-clause-answers g c checks cut told line out tells number shows =
     subst (λ zs. IsRead c.open.result (record { head = record { number = count; text = zs }; nodes = [] })) (sym same) c.open.ensures
     in
     let new : Run = record run { load = Some c.open.result } in
-    running-load
-    checks
-    new
-    c.open.result
-    (with_line cut line)
-    count
-    cut.whole
-    lines
-    told
-    (g.K.Sink.taken c.args.sink.now)
-    (g.K.Sink.sure_room c.args.sink.now)
-    (cut-opens cut count line number out short opened)
-    refl
-    read
-    (tells-on checks run new cut.whole told refl refl tells)
-    (Appends-nil (g.K.Sink.taken c.args.sink.now), omega arith)
+    running-load (cut-opens cut count line number out short opened) refl read (tells-on checks run new cut.whole told refl refl tells) (Appends-nil (g.K.Sink.taken c.args.sink.now), omega arith)
 
 pub returns-in-None-clause-evaluated : goal.returns-in-None-clause-evaluated
 returns-in-None-clause-evaluated g c cut told line out tells number shows =
     let run : Run = c.args.self.now in
-    let new = c.tell.new.self.counts in
     let count : ℕ = c.args.next.now.number in
     let steps : ℕ = c.args.steps.now in
     let long : LINE_BYTES < length line = subst (λ o. Shows o line) c.in-None.is shows in
     let fault : Fault = record { line = count; refusal = LongLine } in
     let order : OrderLines = single (record { number = count; text = line }) in
-    let made : MakesAnswer (Err fault) run.answer run.session.house told.session (answering false) order =
-    long-made false run.answer run.session.house told.session count line long tells.holds
-    in
-    let counted = counted-fault fault (λ bound. number_of bound told.session order) steps in
-    let on = evaluated-more run new cut.whole told order (Err fault) run.answer run.session.house steps steps tells made counted (omega arith) c.tell.ensures.counts in
-    evaluated-cut run.counts new cut.whole (cut.whole ++ order ∷ []) (with_line cut line) count None steps steps (cut-long cut count line number out long) on
+    let made = long-made false run.answer run.session.house told.session count line long tells.holds in
+    let on = evaluated-more order (Err fault) run.answer run.session.house steps steps tells made (counted-fault fault (λ bound. number_of bound told.session order) steps) (omega arith) c.tell.ensures.counts in
+    evaluated-cut run.counts c.tell.new.self.counts cut.whole (cut.whole ++ order ∷ []) (with_line cut line) count None steps steps (cut-long cut count line number out long) on

@@ -4,11 +4,11 @@ use Rattle.smil_top.specs.Evaluations.{line_number}
 use Rattle.smil_top.specs.Running.{Makes, line_by}
 use Rattle.smil_top.proofs.Evaluated.{counted-line, counted-refused}
 use Rattle.smil_top.proofs.Makings.{unmade-line}
-use Rattle.smil_top.proofs.TitleLemmas.{read-short}
+use Rattle.smil_top.proofs.ShortNames.{read-short}
 use Rattle.smil_top.proofs.session.Session.answer_line.Goals as goal
 
-pub answer_read-requires-clause-title : goal.answer_read-requires-clause-title
-answer_read-requires-clause-title g c = read-short c.args.line.now c.in_ok-read.read c.in_ok-read.ensures.reading
+pub answer_read-requires-clause-name : goal.answer_read-requires-clause-name
+answer_read-requires-clause-name g c = read-short c.args.line.now c.in_ok-read.read c.in_ok-read.ensures.reading
 
 pub returns-in_err-read-clause-answer : goal.returns-in_err-read-clause-answer
 returns-in_err-read-clause-answer g c session holds =

@@ -1,5 +1,5 @@
 use Rattle.std.proofs.Common.{sym, ap, ◌∙◌}
-use Rattle.smil_tree.specs.Kin.{list_in}
+use Rattle.smil_model.specs.ListTables.{list_in}
 use Rattle.smil_tree.proofs.KinTables.{list-rows}
 use Rattle.smil_tree.proofs.kin.Kin.time_children.Goals as goal
 

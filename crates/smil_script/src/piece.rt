@@ -8,12 +8,12 @@ use std::marker::Model;
 
 /// A word of a line, or what is left of the line, and its place in it.
 #[derive(Drop)]
-pub struct Word<'a> {
+pub struct Piece<'a> {
     pub text: &'a [u8],
     pub place: usize,
 }
 
-impl<'a> Model for Word<'a> {
+impl<'a> Model for Piece<'a> {
     ghost use Rattle.std.specs.Prelude.{◌<◌, ◌+◌, length};
     ghost use Rattle.smil_model.specs.declared.limits.TheConstants.{TEXT_BYTES};
     ghost use Rattle.smil_grammar.specs.Positions.{Piece};
@@ -25,31 +25,31 @@ impl<'a> Model for Word<'a> {
     ghost invariant = { λ word. word.place + length word.text.now < TEXT_BYTES };
 }
 
-impl<'a> Word<'a> {
+impl<'a> Piece<'a> {
     /// The line from its next word on.
-    pub fn skipped(&self) -> Word<'a>
+    pub fn skipped(&self) -> Piece<'a>
         ensures { result ≡ skipped_of self.now }
     {
         let len = runs::spaces(self.text);
         let (_, text) = self.text.split_at(len);
-        Word {
+        Piece {
             text,
             place: self.place + len,
         }
     }
 
     /// The first word, and what stands behind it.
-    pub fn first(&self) -> (Word<'a>, Word<'a>)
+    pub fn first(&self) -> (Piece<'a>, Piece<'a>)
         ensures { result ≡ first_of self.now }
     {
         let from = self.skipped();
         let len = runs::word(from.text);
         let (text, rest) = from.text.split_at(len);
-        let word = Word {
+        let word = Piece {
             text,
             place: from.place,
         };
-        let behind = Word {
+        let behind = Piece {
             text: rest,
             place: from.place + len,
         };

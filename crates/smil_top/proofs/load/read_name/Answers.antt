@@ -1,7 +1,7 @@
 use Rattle.std.proofs.Common.{Ok, ap, ◌∙◌}
 use Rattle.smil_grammar.specs.declared.read.Read.TheVariants.{Load}
-use Rattle.smil_top.proofs.TitleLemmas.{read-short}
-use Rattle.smil_top.proofs.load.read_title.Goals as goal
+use Rattle.smil_top.proofs.ShortNames.{read-short}
+use Rattle.smil_top.proofs.load.read_name.Goals as goal
 
 pub invariant_of-result : goal.invariant_of-result
 invariant_of-result c = record {
