@@ -131,14 +131,8 @@ fn compare<R: BufRead + Drop, W: Write, L: Ledger>(alloc: Global, blank: Blank, 
     }
     out.flush()
 }
-
-fn main(rt: HostRuntime) -> io::Result<()> {
-    let alloc = rt.alloc();
-    let mut out = BufWriter::new(alloc, io::writer(&rt))?;
-    let input = BufReader::new(alloc, rt.reader())?;
-    compare::<_, _, Brand>(alloc, Blank::new(1), input, &mut out)
-}
 RT
+with_main
 mkdir "$work/cases"
 python3 "$here/bench/counts_compare.py" --oracle "$1" --make "$work/cases" --seed "${2:-1}" --cases "${3:-200}"
 cd "$program"

@@ -401,12 +401,6 @@ fn compare<R: BufRead + Drop, W: Write, L: Ledger>(alloc: Global, blank: Blank, 
     }
     out.flush()
 }
-
-fn main(rt: HostRuntime) -> io::Result<()> {
-    let alloc = rt.alloc();
-    let mut out = BufWriter::new(alloc, io::writer(&rt))?;
-    let input = BufReader::new(alloc, rt.reader())?;
-    compare::<_, _, Brand>(alloc, Blank::new(1), input, &mut out)
-}
 RT
+with_main
 compare_cases --steps 1000 --seconds 300

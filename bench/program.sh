@@ -37,3 +37,16 @@ with_below() {
         if [ -d "$here/crates/$crate" ]; then echo "$crate"; fi
     done
 }
+
+# with_main: appends `main` to the main file: it answers standard input by the file's `compare`.
+with_main() {
+    cat >> "$program/src/main.rt" <<'RT'
+
+fn main(rt: HostRuntime) -> io::Result<()> {
+    let alloc = rt.alloc();
+    let mut out = BufWriter::new(alloc, io::writer(&rt))?;
+    let input = BufReader::new(alloc, rt.reader())?;
+    compare::<_, _, Brand>(alloc, Blank::new(1), input, &mut out)
+}
+RT
+}
