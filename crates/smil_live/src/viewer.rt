@@ -63,7 +63,10 @@ impl<T: Table> Viewer<T> {
         match step {
             Move::Pass(to) => self.pass_through(to, out, steps),
             Move::Settle(to) => self.settle_once(to, out, steps),
-            Move::Hear(entry) => self.hear_once(entry, out, steps),
+            Move::Hear(entry) => {
+                self.cells.hear(entry, steps)?;
+                put_touched(&self.cells, &mut self.seen, out)
+            }
         }
     }
 
@@ -123,34 +126,6 @@ impl<T: Table> Viewer<T> {
             (fresh_since self.old.cells self.new.cells ≤ steps.new - steps.old)) }
     {
         self.cells.settle(to, steps)?;
-        put_touched(&self.cells, &mut self.seen, out)
-    }
-
-    // Takes in a log entry, and tells what is different behind it.
-    fn hear_once<L: Ledger>(
-        &mut self,
-        entry: LogEntry,
-        out: &mut Bytes,
-        steps: &mut Steps<L>,
-    ) -> Result<(), Refusal>
-        requires may { MayMove self.old.cells.presentation (Move.Hear entry) }
-        requires shown { IsShown self.old.cells self.old.seen }
-        ensures ok { OnOk result (IsShownAt (made self.old.cells.presentation (Move.Hear entry))
-            self.new.cells self.new.seen) }
-        ensures told { OnOk result (out.new ≡ out.old ++ text_of self.old.cells.presentation
-            (changes_by self.old.cells.presentation (Move.Hear entry))) }
-        ensures refused { IfErr result
-            (IsTooFull (made self.old.cells.presentation (Move.Hear entry))) }
-        ensures marked { self.new.cells.marked ≡ self.old.cells.marked }
-        ensures before { self.new.seen.before ≡ self.old.seen.before }
-        ensures begins { Begins out.old out.new }
-        ensures counted { steps.old ≤ steps.new }
-        ensures most { OnOk result (WhereTold T.counts
-            (steps.new - steps.old ≤ reached_since self.old.cells self.new.cells)) }
-        ensures least { OnOk result (WhereTold T.counts
-            (fresh_since self.old.cells self.new.cells ≤ steps.new - steps.old)) }
-    {
-        self.cells.hear(entry, steps)?;
         put_touched(&self.cells, &mut self.seen, out)
     }
 }

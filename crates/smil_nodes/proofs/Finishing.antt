@@ -1,5 +1,5 @@
 -- Nothing is listed any more.
-use Rattle.std.proofs.Common.{◌≡◌, refl, ◌∙◌, ap, sym, ℕ, ◌+◌, ◌-◌, ◌≤◌, List, [], ◌∷◌, ◌++◌, length, Option, ℤ, Bool, true, false, arith}
+use Rattle.std.proofs.Common.{◌≡◌, refl, ◌∙◌, ap, sym, ℕ, ◌+◌, ◌-◌, ◌≤◌, List, [], ◌∷◌, ◌++◌, length, Option, ℤ, Bool, true, false, arith, inl, inr}
 use Rattle.std.specs.Prelude.{◌&&◌, ◌==◌, not, is_some}
 use Rattle.std.proofs.lemmas.Bool.{eqb-true, or_left, or_parts}
 use Rattle.std.proofs.lemmas.List.Folds.{list_any-append}
@@ -21,7 +21,7 @@ use Rattle.smil_cells.specs.Round.{AreRowsEvaluated, StayUnchanged}
 use Rattle.smil_cells.specs.CellsState.{any_interval, fresh, is_same_interval}
 use Rattle.smil_cells.proofs.Current.{all_current}
 use Rattle.smil_cells.proofs.OnWay.{same_self}
-use Rattle.smil_nodes.specs.Work.{AreSettled, IsCounted}
+use Rattle.smil_nodes.specs.Work.{AreDueOnce, AreSettled, IsCounted, IsDue}
 use Rattle.smil_nodes.proofs.Counting.{passing_within, within_reaches}
 use Rattle.smil_nodes.proofs.Fixed.{current_intervals}
 use Rattle.smil_laws.proofs.Lists.{filter_shorter}
@@ -71,6 +71,19 @@ module _ (nodes : List Node) (log : List LogEntry) (entries : List Entry) (order
       let steps_are : steps ≡ start + length counted.taken = counted.steps_are in
       let most : length counted.taken ≤ reaches nodes log entries = within_reaches nodes log entries counted.taken counted.distinct counted.reached in
       omega (arith, steps_are, most)
+
+  -- the elements that are due by the intervals at the end, each once
+  pub evaluated_due : (before after : ℕ → Option Interval) → ((s : ℕ) → interval_in first s ≡ before s) → ((s : ℕ) → interval_in rows s ≡ after s) → AreDueOnce nodes log entries before after (steps - start)
+  evaluated_due before after was is = record {
+    evaluated = counted.taken;
+    as_many = let steps_are : steps ≡ start + length counted.taken = counted.steps_are in omega (arith, steps_are);
+    distinct = counted.distinct;
+    due = λ s q. is_due s (counted.due s q);
+  }
+    where
+      is_due : (s : ℕ) → IsDue nodes log entries (interval_in first) (interval_in rows) s → IsDue nodes log entries before after s
+      is_due s (inl noted) = inl noted
+      is_due s (inr (x, reading, differs)) = inr (x, reading, λ same. differs (is x ∙ same ∙ sym (was x)))
 
   -- at least as many as have an interval that they had not
   pub counted_least : (before after : ℕ → Option Interval) → IsDistinct nodes → ((s : ℕ) → interval_in first s ≡ before s) → ((s : ℕ) → interval_in rows s ≡ after s) → fresh nodes before after ≤ steps - start

@@ -47,8 +47,5 @@ module _ (graph : OrderedNodes) (nodes : List Node) (order taken mid new : List 
       ∙ ap (λ ns. has taken r || is_later_reader ns graph.order rank who r) same
       ∙ ap (λ o. has taken r || is_later_reader nodes o rank who r) (sym kept)
 
-pub from_taken : (nodes : List Node) (order taken mid : List ℕ) (rank who : ℕ) → mid ≡ taken → (r : ℕ) → has mid r ≡ true → (has taken r ≡ true) ⊎ (is_later_reader nodes order rank who r ≡ true)
-from_taken nodes order taken mid rank who stays r on = inl (sym (ap (λ l. has l r) stays) ∙ on)
-
 pub rest_of : (old taken mid : List ℕ) (rank : ℕ) → mid ≡ taken → IsLeastTaken old rank taken → (r : ℕ) → has mid r ≡ (not (r == rank) && has old r)
 rest_of old taken mid rank stays off r = ap (λ l. has l r) stays ∙ off.rest r

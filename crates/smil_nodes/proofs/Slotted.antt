@@ -9,7 +9,6 @@ use Rattle.smil_model.specs.declared.document.Node.{Node}
 use Rattle.smil_model.specs.document.Document.{elements}
 use Rattle.smil_model.specs.diary.Diary.{History}
 use Rattle.smil_model.specs.interval.Current.{current_interval}
-use Rattle.smil_model.specs.happening.Keys as model
 use Rattle.smil_model.specs.happening.Keys.{coming, coming_of, coming_from, first_coming, keys, least_key}
 use Rattle.smil_element.specs.declared.happening.change.DueChange.{DueChange}
 use Rattle.smil_element.specs.Parts.{coming_meant}

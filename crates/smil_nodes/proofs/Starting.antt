@@ -51,10 +51,19 @@ module _ (past : MarkedHistory) (from : ℕ) (now : ℤ) (order : List ℕ) (row
         (row_of_current rows (front past from) now place e row ordered are here got);
   }
 
-  -- a listed rank is that of an element that is in one of the reaches
-  pub first_reached : ((r : ℕ) → listed r ≡ true → r < length order) → (rank : ℕ) → listed rank ≡ true → in_reaches past.document.nodes past.log (drop from past.diary) (get_or order rank 0) ≡ true
-  first_reached within rank on =
-      let at = element_of past.document.nodes order rank is (within rank on) in
-      ap (in_reaches past.document.nodes past.log (drop from past.diary)) (sym at.1)
-      ∙ noted_reached past.document.nodes past.log at.0 at.2 (drop from past.diary)
-      (sym (told (at.0).serial rank (found_place (at.0).serial order rank distinct (within rank on) (sym at.1))) ∙ on)
+  module _ (within : (r : ℕ) → listed r ≡ true → r < length order) (rank : ℕ) (on : listed rank ≡ true) where
+    there : (e : Node) × (e.serial ≡ get_or order rank 0) × (node_at (elements past.document.nodes) e.serial ≡ Some e)
+    there = element_of past.document.nodes order rank is (within rank on)
+
+    own_noted : is_noted_by past.document.nodes past.log (drop from past.diary) (there.0).serial ≡ true
+    own_noted = sym (told (there.0).serial rank (found_place (there.0).serial order rank distinct (within rank on) (sym there.1))) ∙ on
+
+    -- a listed rank is that of an element that the entries have listed
+    pub first_noted : is_noted_by past.document.nodes past.log (drop from past.diary) (get_or order rank 0) ≡ true
+    first_noted = ap (is_noted_by past.document.nodes past.log (drop from past.diary)) (sym there.1) ∙ own_noted
+
+    -- and that is in one of the reaches
+    pub first_reached : in_reaches past.document.nodes past.log (drop from past.diary) (get_or order rank 0) ≡ true
+    first_reached =
+        ap (in_reaches past.document.nodes past.log (drop from past.diary)) (sym there.1)
+        ∙ noted_reached past.document.nodes past.log there.0 there.2 (drop from past.diary) own_noted

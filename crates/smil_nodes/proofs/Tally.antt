@@ -1,5 +1,5 @@
 -- The elements that were evaluated, each once.
-use Rattle.std.proofs.Common.{◌≡◌, refl, ◌∙◌, ap, sym, ℕ, suc, ◌+◌, ◌<◌, ◌≤◌, List, [], ◌∷◌, length, Bool, true, false, get_or, arith, inl, inr}
+use Rattle.std.proofs.Common.{◌≡◌, refl, ◌∙◌, ap, sym, subst, ℕ, suc, ◌+◌, ◌<◌, ◌≤◌, List, [], ◌∷◌, length, Bool, true, false, get_or, arith, inl, inr}
 use Rattle.std.specs.Prelude.{◌==◌, ◌⊎◌, not, nat_eq}
 use Rattle.std.specs.List.{AllByRecursion, IsDistinct}
 use Rattle.std.proofs.lemmas.Bool.{eq-eqb, eqb-true, or_left, or_right, or_cases, or_parts, and_parts}
@@ -13,7 +13,8 @@ use Rattle.smil_laws.proofs.TouchedReached.{reaches_hold}
 use Rattle.smil_graph.specs.Graph.{IsGraphOrder}
 use Rattle.smil_cells.specs.declared.plain.current_rows.CurrentRow.{CurrentRow}
 use Rattle.smil_cells.specs.Plain.{interval_in}
-use Rattle.smil_nodes.specs.Work.{IsBelow, IsCounted, is_later_reader}
+use Rattle.smil_nodes.specs.Noted.{is_noted_by}
+use Rattle.smil_nodes.specs.Work.{HasSame, IsBelow, IsCounted, IsDue, is_later_reader}
 use Rattle.smil_nodes.specs.Agenda.{IsLeastTaken}
 use Rattle.smil_nodes.proofs.Ranked.{element_of, one_place}
 use Rattle.smil_nodes.proofs.Apart.{is_reader}
@@ -24,21 +25,28 @@ each_has P (x ∷ xs) f = (f x (or_left _ _ (eq-eqb x x refl)), each_has P xs (�
 
 module _ (nodes : List Node) (log : List LogEntry) (entries : List Entry) (order : List ℕ) (first : List CurrentRow) (start : ℕ) where
   -- nothing is evaluated yet
-  pub none_counted : (listed : ℕ → Bool) → ((r : ℕ) → listed r ≡ true → r < length order) → ((r : ℕ) → listed r ≡ true → in_reaches nodes log entries (get_or order r 0) ≡ true) → IsCounted nodes log entries order listed first first start start
+  pub none_counted : (listed : ℕ → Bool) → ((r : ℕ) → listed r ≡ true → r < length order) → ((r : ℕ) → listed r ≡ true → in_reaches nodes log entries (get_or order r 0) ≡ true)
+      → ((r : ℕ) → listed r ≡ true → is_noted_by nodes log entries (get_or order r 0) ≡ true) → IsCounted nodes log entries order listed first first start start
   unfolding IsDistinct
-  none_counted listed within reached = record {
+  none_counted listed within reached noted = record {
     next = 0;
     taken = [];
     steps_are = omega arith;
     distinct = tt;
     reached = λ s q. cc;
+    due = λ s q. let never : false ≡ true = q in cc;
     below = λ s q. let never : false ≡ true = q in cc;
     others = λ s q. refl;
     above = λ r on. (omega arith, within r on);
     listed_reached = reached;
+    listed_due = λ r on. inl (noted r on);
   }
 
   module _ (old : List ℕ) (before after : List CurrentRow) (steps rank who : ℕ) (is : IsGraphOrder nodes order) (apart : IsDistinct nat_eq order) (mid : List ℕ) (lt : rank < length order) (at : get_or order rank 0 ≡ who) (off : IsLeastTaken old rank mid) (others : (s : ℕ) → who == s ≡ false → interval_in after s ≡ interval_in before s) (so_far : IsCounted nodes log entries order (has old) first before start steps) where
+    -- a rank is listed that was, or that of a later reader where the interval changed
+    abbrev IsLaterListed : ℕ → Type 0
+    IsLaterListed r = (has mid r ≡ true) ⊎ ((is_later_reader nodes order rank who r ≡ true) × (HasSame who before after → ⊥))
+
     who_reached : in_reaches nodes log entries who ≡ true
     who_reached = ap (in_reaches nodes log entries) (sym at) ∙ so_far.listed_reached rank off.member
 
@@ -71,12 +79,29 @@ module _ (nodes : List Node) (log : List LogEntry) (entries : List Entry) (order
         ap (in_reaches nodes log entries) (sym at.1)
         ∙ (reaches_hold nodes log entries).readers who at.0 at.2 who_reached (ap (reads nodes who) at.1 ∙ reader.reading)
 
-    listed_above : (r : ℕ) → (has mid r ≡ true) ⊎ (is_later_reader nodes order rank who r ≡ true) → (suc rank ≤ r) × (r < length order)
+    listed_above : (r : ℕ) → IsLaterListed r → (suc rank ≤ r) × (r < length order)
     listed_above r (inl q) = let was = mid_above r q in (was.0, (so_far.above r was.1).1)
-    listed_above r (inr q) = let reader = is_reader nodes order rank who r q in (omega (arith, reader.above), reader.within)
+    listed_above r (inr q) = let reader = is_reader nodes order rank who r q.0 in (omega (arith, reader.above), reader.within)
+
+    -- it had been its first interval until now
+    first_until : interval_in before who ≡ interval_in first who
+    first_until = so_far.others who (untaken (has so_far.taken who) refl)
+      where
+        untaken : (t : Bool) → has so_far.taken who ≡ t → t ≡ false
+        untaken false q = refl
+        untaken true q = sym (eq-eqb who who refl) ∙ not_taken who q (nat_eq who who) refl
+
+    -- what was due is so still
+    still_due : (s : ℕ) → IsDue nodes log entries (interval_in first) (interval_in before) s → IsDue nodes log entries (interval_in first) (interval_in after) s
+    still_due s (inl noted) = inl noted
+    still_due s (inr (x, reading, differs)) = inr (x, reading, λ same. differs (by_test (who == x) refl same))
+      where
+        by_test : (t : Bool) → who == x ≡ t → interval_in after x ≡ interval_in first x → interval_in before x ≡ interval_in first x
+        by_test true e same = subst (λ y. interval_in before y ≡ interval_in first y) (eqb-true who x e) first_until
+        by_test false e same = sym (others x e) ∙ same
 
     -- only ranks above it are listed from now on
-    pub rank_passed : (new : ℕ → Bool) → ((r : ℕ) → new r ≡ true → (has mid r ≡ true) ⊎ (is_later_reader nodes order rank who r ≡ true)) → (r : ℕ) → r ≤ rank → new r ≡ false
+    pub rank_passed : (new : ℕ → Bool) → ((r : ℕ) → new r ≡ true → IsLaterListed r) → (r : ℕ) → r ≤ rank → new r ≡ false
     rank_passed new from r le = by_test (new r) refl
       where
         by_test : (t : Bool) → new r ≡ t → t ≡ false
@@ -84,7 +109,7 @@ module _ (nodes : List Node) (log : List LogEntry) (entries : List Entry) (order
         by_test true q = let above = (listed_above r (from r q)).0 in absurd (omega (arith, above, le))
 
     -- one more is evaluated
-    pub one_counted : (new : ℕ → Bool) → ((r : ℕ) → new r ≡ true → (has mid r ≡ true) ⊎ (is_later_reader nodes order rank who r ≡ true)) → (now : ℕ) → now ≡ steps + 1 → IsCounted nodes log entries order new first after start now
+    pub one_counted : (new : ℕ → Bool) → ((r : ℕ) → new r ≡ true → IsLaterListed r) → (now : ℕ) → now ≡ steps + 1 → IsCounted nodes log entries order new first after start now
     unfolding IsDistinct
     one_counted new from now counts = record {
       next = suc rank;
@@ -92,15 +117,22 @@ module _ (nodes : List Node) (log : List LogEntry) (entries : List Entry) (order
       steps_are = let before_are : steps ≡ start + length so_far.taken = so_far.steps_are in omega (arith, counts, before_are);
       distinct = (each_has (λ s. nat_eq who s ≡ false) so_far.taken (λ s q. not_taken s q (nat_eq who s) refl), so_far.distinct);
       reached = λ s q. is_reached s (or_cases (who == s) (has so_far.taken s) q);
+      due = λ s q. still_due s (was_due s (or_cases (who == s) (has so_far.taken s) q));
       below = λ s q. is_below s (or_cases (who == s) (has so_far.taken s) q);
       others = λ s q. let parts = or_parts (who == s) (has so_far.taken s) q in others s parts.0 ∙ so_far.others s parts.1;
       above = λ r on. listed_above r (from r on);
       listed_reached = λ r on. is_listed r (from r on);
+      listed_due = λ r on. is_due r (from r on);
     }
       where
         is_reached : (s : ℕ) → (who == s ≡ true) ⊎ (has so_far.taken s ≡ true) → in_reaches nodes log entries s ≡ true
         is_reached s (inl e) = ap (in_reaches nodes log entries) (sym (eqb-true who s e)) ∙ who_reached
         is_reached s (inr q) = so_far.reached s q
+
+        was_due : (s : ℕ) → (who == s ≡ true) ⊎ (has so_far.taken s ≡ true) → IsDue nodes log entries (interval_in first) (interval_in before) s
+        was_due s (inl e) =
+            subst (IsDue nodes log entries (interval_in first) (interval_in before)) (at ∙ eqb-true who s e) (so_far.listed_due rank off.member)
+        was_due s (inr q) = so_far.due s q
 
         is_below : (s : ℕ) → (who == s ≡ true) ⊎ (has so_far.taken s ≡ true) → IsBelow order (suc rank) s
         is_below s (inl e) = record { rank = rank; below = omega arith; within = lt; at = at ∙ eqb-true who s e }
@@ -108,6 +140,11 @@ module _ (nodes : List Node) (log : List LogEntry) (entries : List Entry) (order
             let was = so_far.below s q in
             record { rank = was.rank; below = omega (arith, was.below, below_rank); within = was.within; at = was.at }
 
-        is_listed : (r : ℕ) → (has mid r ≡ true) ⊎ (is_later_reader nodes order rank who r ≡ true) → in_reaches nodes log entries (get_or order r 0) ≡ true
+        is_listed : (r : ℕ) → IsLaterListed r → in_reaches nodes log entries (get_or order r 0) ≡ true
         is_listed r (inl q) = so_far.listed_reached r (mid_above r q).1
-        is_listed r (inr q) = reader_reached r q
+        is_listed r (inr q) = reader_reached r q.0
+
+        is_due : (r : ℕ) → IsLaterListed r → IsDue nodes log entries (interval_in first) (interval_in after) (get_or order r 0)
+        is_due r (inl q) = still_due (get_or order r 0) (so_far.listed_due r (mid_above r q).1)
+        is_due r (inr q) =
+            inr (who, (is_reader nodes order rank who r q.0).reading, λ same. q.1 (same ∙ sym first_until))

@@ -1,18 +1,20 @@
 -- Elements evaluated in their order, in which each has a rank; those with listed ranks are left.
-use Rattle.std.specs.Prelude.{◌≡◌, ℕ, ◌<◌, ◌≤◌, ◌+◌, zero, suc, ℤ, List, nat_lt, nat_eq, ◌==◌, Bool, true, false, ◌&&◌, ◌||◌, Some, slice_get, slice_index, length, if◌then◌else◌}
+use Rattle.std.specs.Prelude.{◌≡◌, ℕ, ◌<◌, ◌≤◌, ◌+◌, zero, suc, ℤ, List, nat_lt, nat_eq, ◌==◌, Bool, true, false, ◌&&◌, ◌||◌, ◌⊎◌, Option, Some, slice_get, slice_index, length, if◌then◌else◌}
 use Rattle.std.specs.List.{IsDistinct, list_any, position}
 use Rattle.smil_model.specs.declared.diary.Entry.{Entry}
 use Rattle.smil_model.specs.declared.diary.LogEntry.{LogEntry}
+use Rattle.smil_model.specs.declared.interval.Interval.{Interval}
 use Rattle.smil_model.specs.declared.document.Node.{Node}
 use Rattle.smil_model.specs.document.Document.{elements}
 use Rattle.smil_model.specs.document.Closure.{has}
 use Rattle.smil_model.specs.diary.Diary.{History}
-use Rattle.smil_model.specs.reach.Reach.{is_option}
+use Rattle.smil_model.specs.reach.Reach.{is_option, reads}
 use Rattle.smil_laws.specs.Touched.{in_reaches}
 use Rattle.smil_graph.specs.Graph.{OrderedNodes, readers_of}
 use Rattle.smil_cells.specs.declared.plain.current_rows.CurrentRow.{CurrentRow}
 use Rattle.smil_cells.specs.Plain.{interval_in}
 use Rattle.smil_cells.specs.Round.{AreOfElements, IsRowOf}
+use Rattle.smil_nodes.specs.Noted.{is_noted_by}
 
 -- whether the element has this rank, and it is above another
 abbrev pub has_rank_above : List ℕ → ℕ → ℕ → ℕ → Bool
@@ -63,8 +65,24 @@ pub record IsUnlisted (order : List ℕ) (listed : ℕ → Bool) (serial : ℕ) 
   pub at : slice_index order rank ≡ serial
   pub free : listed rank ≡ false
 
+-- an element is due where the entries have it listed,
+-- or where one that it reads has another interval behind them
+abbrev pub IsDue : List Node → List LogEntry → List Entry
+    → (ℕ → Option Interval) → (ℕ → Option Interval) → ℕ → Type 0
+IsDue nodes log entries before after s =
+    (is_noted_by nodes log entries s ≡ true)
+    ⊎ ((x : ℕ) × (reads nodes x s ≡ true) × (after x ≡ before x → ⊥))
+
+-- these are so many evaluations: of elements that are due, and of none twice
+pub record AreDueOnce (nodes : List Node) (log : List LogEntry) (entries : List Entry)
+    (before after : ℕ → Option Interval) (evaluations : ℕ) : Type 0 where
+  pub evaluated : List ℕ
+  pub as_many : evaluations ≡ length evaluated
+  pub distinct : IsDistinct nat_eq evaluated
+  pub due : (s : ℕ) → has evaluated s ≡ true → IsDue nodes log entries before after s
+
 -- each evaluation is a step, and no element is evaluated twice; those that were, and those that
--- are listed, are in the reaches of entries; the listed ranks are above those of the former
+-- are listed, are due and in the reaches of entries; the listed ranks are above those of the former
 pub record IsCounted (nodes : List Node) (log : List LogEntry) (entries : List Entry)
     (order : List ℕ) (listed : ℕ → Bool) (before rows : List CurrentRow) (start steps : ℕ)
     : Type 0 where
@@ -73,12 +91,18 @@ pub record IsCounted (nodes : List Node) (log : List LogEntry) (entries : List E
   pub steps_are : steps ≡ start + length taken
   pub distinct : IsDistinct nat_eq taken
   pub reached : (s : ℕ) → has taken s ≡ true → in_reaches nodes log entries s ≡ true
+  pub due :
+      (s : ℕ) → has taken s ≡ true
+      → IsDue nodes log entries (interval_in before) (interval_in rows) s
   pub below : (s : ℕ) → has taken s ≡ true → IsBelow order next s
   pub others : (s : ℕ) → has taken s ≡ false → HasSame s before rows
   pub above : (rank : ℕ) → listed rank ≡ true → (next ≤ rank) × (rank < length order)
   pub listed_reached :
       (rank : ℕ) → listed rank ≡ true
       → in_reaches nodes log entries (slice_index order rank) ≡ true
+  pub listed_due :
+      (rank : ℕ) → listed rank ≡ true
+      → IsDue nodes log entries (interval_in before) (interval_in rows) (slice_index order rank)
 
 -- how far the least listed rank is below a number of ranks, from a rank on; 0 where none is listed
 abbrev pub gap_from : (ℕ → Bool) → ℕ → ℕ → ℕ

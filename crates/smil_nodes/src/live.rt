@@ -1,20 +1,24 @@
 //! The live table: only what may have changed is evaluated after a happening.
 
-ghost use Rattle.std.specs.Prelude.{◌≡◌, ◌==◌, ◌≤◌, ◌+◌, Some, true, false, length, slice_set, OnOk, IfOk, IfSome};
+ghost use Rattle.std.specs.Prelude.{◌≡◌, ◌↔◌, ◌==◌, ◌≤◌, ◌+◌, ◌-◌, ℕ, Some, true, false, drop, length, slice_set, OnOk, IfOk, IfSome};
 ghost use Rattle.std.specs.List.{position};
 ghost use Rattle.smil_model.specs.declared.document.Node.{Node as AnyNode};
 ghost use Rattle.smil_model.specs.document.Document.{elements, node_at};
+ghost use Rattle.smil_model.specs.document.Closure.{has};
 ghost use Rattle.smil_model.specs.document.Dependencies.{has_implicit_duration};
 ghost use Rattle.smil_model.specs.diary.Lawful.{has_element};
+ghost use Rattle.smil_model.specs.interval.Current.{current_interval};
+ghost use Rattle.smil_model.specs.reach.Bounds.{reaches};
 ghost use Rattle.smil_laws.specs.Near.{IsIntervalNear};
-ghost use Rattle.smil_past.specs.Past.{IsPresent, history_of};
+ghost use Rattle.smil_past.specs.Past.{IsPresent, front, history_of};
 ghost use Rattle.smil_cells.specs.declared.plain.current_rows.CurrentRow.{CurrentRow as AnyRow};
+ghost use Rattle.smil_cells.specs.CellsState.{fresh};
 ghost use Rattle.smil_cells.specs.Round.{AreOfElements, IsRowEvaluated};
 ghost use Rattle.smil_cells.specs.Plain.{interval_in};
 ghost use Rattle.smil_nodes.specs.Endings.{AreKnown, IsEnded, KnowsEnds, nobody, put_ending};
 ghost use Rattle.smil_nodes.specs.Marked.{GoesBack, IsUpToDate};
 ghost use Rattle.smil_nodes.specs.Undo.{ending_back, row_back};
-ghost use Rattle.smil_nodes.specs.Work.{HasSame};
+ghost use Rattle.smil_nodes.specs.Work.{AreDueOnce, HasSame};
 
 use super::agenda::Agenda;
 use super::endings::Endings;
@@ -104,23 +108,7 @@ impl Table for LiveTable {
         changed: &mut Serials,
         steps: &mut Steps<L>,
     ) -> Result<(), AllocError> {
-        let past = since.past;
-        let moment = since.moment;
-        past.possible();
-        let graph = past.graph();
-        let order = graph.order();
-        self.agenda.clear();
-        let network = Network { past, graph };
-        note_touched(self.alloc, &network, since.from, &mut self.agenda)?;
-        while let Some(rank) = self.agenda.take_first() {
-            let who = order[rank];
-            let present = Present { past, who, moment };
-            if self.evaluate(&present, steps)? {
-                changed.push(who)?;
-                put_readers(graph, who, rank, &mut self.agenda)?;
-            }
-        }
-        Ok(())
+        self.evaluate_due(since, changed, steps)
     }
 
     fn interval(&self, who: u32) -> Option<Interval> {
@@ -195,6 +183,60 @@ impl LiveTable {
         Ok(())
     }
 
+    // Takes in the entries from an index on, as the trait says of `refresh`. Evaluated are, each
+    // once, elements alone that the entries have listed, or that read one whose interval is another
+    // behind them.
+    fn evaluate_due<L: Ledger>(
+        &mut self,
+        since: &Since<'_>,
+        changed: &mut Serials,
+        steps: &mut Steps<L>,
+    ) -> Result<(), AllocError>
+        requires moment { IsPresent since.now.past.now since.now.moment }
+        requires within { since.now.from ≤ length since.now.past.now.diary }
+        requires before { IsUpToDate self.old.schedule self.old.endings
+            (front since.now.past.now since.now.from) since.now.moment }
+        ensures current { OnOk result (IsUpToDate self.new.schedule self.new.endings
+            (history_of since.now.past.now) since.now.moment) }
+        ensures changed { OnOk result ((s : ℕ) → has changed.new s ≡ false
+            → current_interval (history_of since.now.past.now) since.now.moment s
+            ≡ current_interval (front since.now.past.now since.now.from) since.now.moment s) }
+        ensures more { OnOk result ((s : ℕ) → has changed.old s ≡ true → has changed.new s ≡ true) }
+        ensures back { GoesBack self.old self.new }
+        ensures has_mark { self.new.has_mark ≡ self.old.has_mark }
+        ensures counted { steps.old ≤ steps.new }
+        ensures due { OnOk result (AreDueOnce since.now.past.now.document.nodes
+            since.now.past.now.log (drop since.now.from since.now.past.now.diary)
+            (current_interval (front since.now.past.now since.now.from) since.now.moment)
+            (current_interval (history_of since.now.past.now) since.now.moment)
+            (steps.new - steps.old)) }
+        ensures most { OnOk result (steps.new - steps.old
+            ≤ reaches since.now.past.now.document.nodes since.now.past.now.log
+            (drop since.now.from since.now.past.now.diary)) }
+        ensures least { OnOk result (fresh since.now.past.now.document.nodes
+            (current_interval (front since.now.past.now since.now.from) since.now.moment)
+            (current_interval (history_of since.now.past.now) since.now.moment)
+            ≤ steps.new - steps.old) }
+    {
+        let past = since.past;
+        let moment = since.moment;
+        past.possible();
+        let graph = past.graph();
+        let order = graph.order();
+        self.agenda.clear();
+        let network = Network { past, graph };
+        note_touched(self.alloc, &network, since.from, &mut self.agenda)?;
+        while let Some(rank) = self.agenda.take_first() {
+            let who = order[rank];
+            let present = Present { past, who, moment };
+            if self.evaluate(&present, steps)? {
+                changed.push(who)?;
+                put_readers(graph, who, rank, &mut self.agenda)?;
+            }
+        }
+        Ok(())
+    }
+
     // Evaluates an element, where the ends of its time children are right if its duration is
     // implicit. The answer is whether its interval changes.
     fn evaluate<L: Ledger>(
@@ -215,8 +257,8 @@ impl LiveTable {
             present.now.moment present.now.who self.old.schedule self.new.schedule) }
         ensures ended { OnOk result (IsEnded (history_of present.now.past.now) present.now.who
             self.new.schedule self.old.endings self.new.endings) }
-        ensures same { IfOk result (λ changes. changes ≡ false
-            → HasSame present.now.who self.old.schedule self.new.schedule) }
+        ensures same { IfOk result (λ changes. (changes ≡ false)
+            ↔ HasSame present.now.who self.old.schedule self.new.schedule) }
         ensures agenda { self.new.agenda ≡ self.old.agenda }
         ensures back { GoesBack self.old self.new }
         ensures has_mark { self.new.has_mark ≡ self.old.has_mark }

@@ -14,14 +14,14 @@
 //! |---|---|
 //! | `session WORD..` | a session with these words of the program, whose input is read in pieces |
 //! | .. `chunk=N` | a read gives at most N bytes, 1 at least; 4,096 where this is left out |
-//! | .. `room=N` | N bytes may be written, and no write that would pass them; 65,536 where left out |
+//! | .. `room=N` | N bytes may be written, and no write that passes them; 65,536 where left out |
 //! | .. `reads=N,N..` `writes=N,N..` | the reads and the writes that fail, counted from 1 |
 //! | `\|TEXT` | a line of the input that ends with a line feed |
 //! | `crlf\|TEXT` | one that ends with a carriage return and a line feed |
 //! | `open\|TEXT` | one that ends with neither |
 //! | `end` | the session is served |
 //! | `turns WORD..` | a session that is read line by line |
-//! | `N\|TEXT` | a line, which ends with a line feed: a read gives it if N bytes of answers were taken, no more and no fewer, and fails otherwise |
+//! | `N\|TEXT` | a line and a line feed, read where just N bytes of answers were taken; else a fault |
 //! | `end N` | the input ends if N bytes of answers were taken; the session is served |
 //!
 //! An empty line and one that begins with `#` say nothing. Of each session are written `session`

@@ -25,8 +25,9 @@ use Rattle.smil_top.specs.Transcript.{TranscriptState, IsTranscriptBy, untold}
 use Rattle.smil_top.specs.Words.{is_told}
 use Rattle.smil_top.specs.Serving.{counted_bytes, status_by, status_of, IsWholeTranscript, IsCutShort, IsPart, AreFirst, IsBroken, Runs, Explains, Generates, Serves, ServesBy, reads}
 use Rattle.smil_top.specs.Evaluations.{AreEvaluated, Evaluates, EvaluatesBy}
-use Rattle.smil_top.specs.Running.{answering, asked_by, ended_by, IsAll, IsRunning, IsLine, Tells, WritesAll, WritesPart, Goes, Answers, AnswersOrders, Ends, Ran, RanCounted, RunsBy}
+use Rattle.smil_top.specs.Running.{answering, asked_by, ended_by, IsAll, IsRunning, IsLine, Tells, Writes, WritesAll, WritesPart, Goes, Answers, AnswersOrders, Ends, Ran, RanCounted, RunsBy}
 use Rattle.smil_top.proofs.Cuts.{cut_of-one_more, count-cut_of, whole-first, orders-first}
+use Rattle.smil_top.proofs.Writing.{Writes-two}
 
 -- the reader has not ended, or only at the end of the input
 abbrev pub IsUnbroken : ReaderState → Option (List ℕ) → Type 0
@@ -206,7 +207,7 @@ orders-read reader before rest came answered has = elim has.unbroken [
 -- ---- where the call ends
 
 -- a part that was written is a part of the whole text
-pub part-of : (told text : List ℕ) (before taken after : Option (List ℕ)) (room left : ℕ) →
+part-of : (told text : List ℕ) (before taken after : Option (List ℕ)) (room left : ℕ) →
     WritesAll before taken room left told → WritesPart taken after left text →
     (said : List ℕ) × Appends before after said × IsPart said (told ++ text) room
 part-of told text before taken after room left all part =
@@ -218,16 +219,17 @@ part-of told text before taken after room left all part =
       record { rest = drop part.0 text; split = split; some = some; more_than_room = more },
     )
 
-pub all-of : (told text : List ℕ) (before taken after : Option (List ℕ)) (room left left' : ℕ) →
-    WritesAll before taken room left told → WritesAll taken after left left' text → WritesAll before after room left' (told ++ text)
-all-of told text before taken after room left left' one two =
-    (Appends-trans before taken after told text one.0 two.0, omega (arith, one.1, two.1, length-append told text))
+-- a text alone, whose write failed
+pub part-alone : {result : Result (Unit {0}) Failed} {fault : Failed} (before after : Option (List ℕ)) (room left : ℕ) (text : List ℕ) → result ≡ Err fault → Writes result before after room left text →
+    (said : List ℕ) × Appends before after said × IsPart said text room
+part-alone before after room left text is writes =
+    part-of [] text before before after room room (Appends-nil before, omega arith) (subst (λ r. Writes r before after room left text) is writes)
 
 -- more was told
 all-told : (told more : TranscriptState) (before taken after : Option (List ℕ)) (room left left' : ℕ) (goes : Goes (Ok tt) told more taken after left left') →
     WritesAll before taken room left told.text → WritesAll before after room left' more.text
 all-told told more before taken after room left left' goes one =
-    subst (λ zs. WritesAll before after room left' zs) (sym goes.text_is) (all-of told.text goes.text before taken after room left left' one goes.writes)
+    subst (λ zs. WritesAll before after room left' zs) (sym goes.text_is) (Writes-two (Ok tt) before taken after room left left' told.text goes.text one goes.writes)
 
 part-told : (e : Failed) (told more : TranscriptState) (before taken after : Option (List ℕ)) (room left left' : ℕ) (goes : Goes (Err e) told more taken after left left') →
     WritesAll before taken room left told.text → (said : List ℕ) × Appends before after said × IsPart said more.text room
@@ -394,9 +396,9 @@ served-by : (checks : Bool) (ended : Status) (rest : Option (List ℕ)) (came te
 served-by true ended rest came text room runs = runs
 served-by false ended rest came text room runs = runs
 
-pub Serves-ran : (checks : Bool) (ended : Status) (run : Run) (before after taken_before taken_after : Option (List ℕ)) (room : ℕ) → Ran checks ended run before after taken_before taken_after room →
+Serves-ran : {checks : Bool} {ended : Status} {run : Run} {before after taken_before taken_after : Option (List ℕ)} {room : ℕ} → Ran checks ended run before after taken_before taken_after room →
     Serves (Some (asked_by checks)) ended before after taken_before taken_after room
-Serves-ran checks ended run before after taken_before taken_after room ran = record {
+Serves-ran {checks} {ended} {run} {after = after} {room = room} ran = record {
   came = ran.came;
   text = ran.text;
   read = ran.read;
@@ -405,20 +407,20 @@ Serves-ran checks ended run before after taken_before taken_after room ran = rec
 }
 
 -- the same bytes came
-came-ran : (checks : Bool) (ended : Status) (run : Run) (before after taken_before taken_after : Option (List ℕ)) (room : ℕ) (ran : Ran checks ended run before after taken_before taken_after room) →
-    (Serves-ran checks ended run before after taken_before taken_after room ran).came ≡ ran.came
+came-ran : {checks : Bool} {ended : Status} {run : Run} {before after taken_before taken_after : Option (List ℕ)} {room : ℕ} (ran : Ran checks ended run before after taken_before taken_after room) →
+    (Serves-ran ran).came ≡ ran.came
 unfolding Serves-ran
-came-ran checks ended run before after taken_before taken_after room ran = refl
+came-ran ran = refl
 
-pub Evaluates-ran : (checks : Bool) (ended : Status) (run : Run) (before after taken_before taken_after : Option (List ℕ)) (room rise : ℕ) → RanCounted checks ended run before after taken_before taken_after room rise →
+pub Evaluates-ran : {checks : Bool} {ended : Status} {run : Run} {before after taken_before taken_after : Option (List ℕ)} {room rise : ℕ} → RanCounted checks ended run before after taken_before taken_after room rise →
     Evaluates (Some (asked_by checks)) ended before after taken_before taken_after room rise
-Evaluates-ran checks ended run before after taken_before taken_after room rise ran = record {
-  serves = Serves-ran checks ended run before after taken_before taken_after room ran.ran;
-  bounded = subst (λ came. EvaluatesBy (Some (asked_by checks)) ended came rise) (sym (came-ran checks ended run before after taken_before taken_after room ran.ran)) ran.bounded;
+Evaluates-ran {checks} {ended} {rise = rise} ran = record {
+  serves = Serves-ran ran.ran;
+  bounded = subst (λ came. EvaluatesBy (Some (asked_by checks)) ended came rise) (sym (came-ran ran.ran)) ran.bounded;
 }
 
 -- there was no memory to begin with
-pub Serves-nothing : (checks : Bool) (rest taken : Option (List ℕ)) (room : ℕ) → Serves (Some (asked_by checks)) status.Memory rest rest taken taken room
+Serves-nothing : (checks : Bool) (rest taken : Option (List ℕ)) (room : ℕ) → Serves (Some (asked_by checks)) status.Memory rest rest taken taken room
 Serves-nothing checks rest taken room = record {
   came = [];
   text = [];
@@ -432,13 +434,13 @@ Evaluates-nothing checks rest taken room rise =
     let serves = Serves-nothing checks rest taken room in
     record { serves = serves; bounded = EvaluatesBy-of checks status.Memory serves.came rise (λ runs. not_told status.Memory (orders (lines serves.came)) rise refl) }
 
-pub Serves-explained : (ended : Status) (rest before after : Option (List ℕ)) (room : ℕ) (text : List ℕ) → Appends before after text → Explains ended text room →
+pub Serves-explained : {ended : Status} {before after : Option (List ℕ)} {room : ℕ} (rest : Option (List ℕ)) (text : List ℕ) → Appends before after text → Explains ended text room →
     Serves None ended rest rest before after room
-Serves-explained ended rest before after room text written explains = record { came = []; text = text; read = Consumes-nil rest; written = written; served = (refl, explains) }
+Serves-explained rest text written explains = record { came = []; text = text; read = Consumes-nil rest; written = written; served = (refl, explains) }
 
-pub Serves-generated : (number : ℕ) (ended : Status) (rest before after : Option (List ℕ)) (room : ℕ) (text : List ℕ) → Appends before after text → Generates number ended text room →
+pub Serves-generated : {number : ℕ} {ended : Status} {before after : Option (List ℕ)} {room : ℕ} (rest : Option (List ℕ)) (text : List ℕ) → Appends before after text → Generates number ended text room →
     Serves (Some (mode.Gen number)) ended rest rest before after room
-Serves-generated number ended rest before after room text written generates = record { came = []; text = text; read = Consumes-nil rest; written = written; served = (refl, generates) }
+Serves-generated rest text written generates = record { came = []; text = text; read = Consumes-nil rest; written = written; served = (refl, generates) }
 
 -- nothing is said of evaluations where no session is read
 pub Evaluates-unread : {asked : Option Mode} {ended : Status} {before after taken_before taken_after : Option (List ℕ)} {room rise : ℕ} → reads asked ≡ false →

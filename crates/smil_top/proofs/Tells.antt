@@ -212,6 +212,12 @@ unfinished-made false text house session lines line same holds = (holds, inl (ap
 abbrev pub Shows : Option (Bor (List ℕ)) → List ℕ → Type 0
 Shows text line = IsLine (option_map {T = Bor (List ℕ)} {U = List ℕ} (λ t. t.now) text) line
 
+-- it, and that it isn't too long
+pub shown-line : {text : Option (Bor (List ℕ))} {shown : Bor (List ℕ)} {line : List ℕ} → text ≡ Some shown → Shows text line → (line ≡ shown.now) × (length line ≤ LINE_BYTES)
+shown-line {line = line} is shows =
+    let l = subst (λ o. Shows o line) is shows in
+    (l.0, subst (λ zs. length zs ≤ LINE_BYTES) (sym l.0) l.1)
+
 open-some : (load : Load) (at : Option LoadLines) → IsOpen (Some load) at → (lines : LoadLines) × (at ≡ Some lines) × IsRead load lines
 open-some load None h = absurd h
 open-some load (Some lines) h = (lines, refl, h)

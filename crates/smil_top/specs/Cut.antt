@@ -76,6 +76,7 @@ cut_inside whole lines line =
           (record lines { nodes = lines.nodes ++ line ∷ [] });
     })
 
+-- with a numbered line, where a load is open or none is
 abbrev pub cut_by : Option LoadLines → List OrderLines → NumberedLine → CutLines
 cut_by None whole line = cut_outside whole line
 cut_by (Some lines) whole line = cut_inside whole lines line
@@ -89,6 +90,7 @@ abbrev pub cut_further : CutLines → List (List ℕ) → CutLines
 cut_further cut [] = cut
 cut_further cut (line ∷ lines) = cut_further (with_line cut line) lines
 
+-- what all these lines are cut into
 abbrev pub cut_of : List (List ℕ) → CutLines
 cut_of lines = cut_further (record { count = 0; whole = []; «open» = None }) lines
 

@@ -256,7 +256,8 @@ is_too_many _ = false
 -- an order is of one presentation's name at most
 abbrev pub IsOfOneName : Type 0
 IsOfOneName =
-    (name other : List ℕ) (order : OrderLines) → is_presentation_name name ≡ true → is_presentation_name other ≡ true
+    (name other : List ℕ) (order : OrderLines)
+    → is_presentation_name name ≡ true → is_presentation_name other ≡ true
     → is_of name order ≡ true → is_of other order ≡ true
     → name ≡ other
 
@@ -320,7 +321,8 @@ pub record IsAlone
 -- for each presentation's name, within any limits
 abbrev pub NamesAreIsolated : Type 0
 NamesAreIsolated =
-    (allowed : Limits) (name : List ℕ) (tried : List OrderAttempt) → is_presentation_name name ≡ true
+    (allowed : Limits) (name : List ℕ) (tried : List OrderAttempt)
+    → is_presentation_name name ≡ true
     → any_refused_as is_too_many (answered_by (answer_within allowed) tried) ≡ false
     → IsAlone (answer_within allowed) name tried
 

@@ -232,6 +232,7 @@ abbrev pub WritesPart : Option (List ℕ) → Option (List ℕ) → ℕ → List
 WritesPart before after room text = (n : ℕ) × (n < length text) × Appends before after (take n text)
     × (room < length text)
 
+-- what a write wrote: the text, or where it failed a part of it
 abbrev pub Writes :
     Result (Unit {0}) Failed → Option (List ℕ) → Option (List ℕ) → ℕ → ℕ → List ℕ → Type 0
 Writes (Ok done) before after room left text = WritesAll before after room left text

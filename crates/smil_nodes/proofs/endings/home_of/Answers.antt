@@ -1,6 +1,5 @@
 use Rattle.std.proofs.Common.{◌≡◌, ◌∙◌, ap, sym, subst, ℕ, refl}
 use Rattle.std.specs.Prelude.{Option, IfSome, is_some, true}
-use Rattle.smil_model.specs.document.Document.{time_children, time_parent}
 use Rattle.smil_model.specs.diary.Lawful.{has_element}
 use Rattle.smil_element.proofs.Told.{parent_known, tree_node}
 use Rattle.smil_cells.proofs.Taking.{found, has_row}

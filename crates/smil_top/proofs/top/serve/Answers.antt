@@ -15,7 +15,7 @@ returns-in-Ok-Gen-clause-serves g c =
     let e = c.generated.ensures.generates in
     let is : Some (mode.Gen c.in-Ok-Gen.number) ≡ mode_of c.args.words.now = ap (λ (m : Mode). Some m) (sym c.in-Ok-Gen.field-0-is) ∙ c.in-Ok-Gen.ensures in
     subst (λ (m : Option Mode). Serves m c.generated.result rest rest before after room) is
-    (Serves-generated c.in-Ok-Gen.number c.generated.result rest before after room e.0 e.1 e.2)
+    (Serves-generated rest e.0 e.1 e.2)
 
 pub returns-in-Err-clause-serves : goal.returns-in-Err-clause-serves
 returns-in-Err-clause-serves g c =
@@ -25,7 +25,7 @@ returns-in-Err-clause-serves g c =
     let room = g.K.Sink.sure_room c.args.sink.now in
     let e = c.explain.ensures.explains in
     subst (λ (m : Option Mode). Serves m c.explain.result rest rest before after room) c.in-Err.ensures
-    (Serves-explained c.explain.result rest before after room e.0 e.1 e.2)
+    (Serves-explained rest e.0 e.1 e.2)
 
 pub returns-in-Ok-Gen-clause-evaluated : goal.returns-in-Ok-Gen-clause-evaluated
 returns-in-Ok-Gen-clause-evaluated g c =

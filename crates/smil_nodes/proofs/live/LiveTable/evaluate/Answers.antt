@@ -1,5 +1,5 @@
 use Rattle.std.proofs.Common.{◌∙◌, ap, sym}
-use Rattle.std.specs.Prelude.{Option, is_some}
+use Rattle.std.specs.Prelude.{Option, is_some, not}
 use Rattle.std.proofs.lemmas.Bool.{not-false}
 use Rattle.smil_model.specs.declared.interval.Interval.{Interval}
 use Rattle.smil_past.specs.Past.{history_of}
@@ -38,10 +38,12 @@ returns-clause-taken g c =
     taken_by (history_of c.args.present.now.past.now) c.args.present.now.moment _ _ c.args.self.now.schedule c.replace.new.self.schedule c.in_ok-row.row at (c.in_ok-row.ensures.row at.element at.node) c.in_ok-replace.ensures.put
 
 pub returns-clause-same : goal.returns-clause-same
-returns-clause-same g c = λ same.
+returns-clause-same g c =
     let at = found_row g (goal.at.returns-clause-same g c).After-unwrap-index in
-    own_interval _ c.args.self.now.schedule _ _ c.in_ok-row.row at (c.in_ok-row.ensures.row at.element at.node).serial c.replace.new.self.schedule c.in_ok-replace.ensures.put
-    ∙ sym (sym c.interval-before.ensures.value ∙ c.is_same_interval.ensures.0 (not-false c.is_same_interval.result same))
+    let own = own_interval _ c.args.self.now.schedule _ _ c.in_ok-row.row at (c.in_ok-row.ensures.row at.element at.node).serial c.replace.new.self.schedule c.in_ok-replace.ensures.put in (
+      λ unchanged. own ∙ sym (sym c.interval-before.ensures.value ∙ c.is_same_interval.ensures.0 (not-false c.is_same_interval.result unchanged)),
+      λ same. ap not (c.is_same_interval.ensures.1 (c.interval-before.ensures.value ∙ sym same ∙ own)),
+    )
 
 pub returns-clause-ended : goal.returns-clause-ended
 returns-clause-ended g c =

@@ -1,24 +1,20 @@
-use Rattle.std.proofs.Common.{◌≡◌, ◌≤◌, ℕ, [], ◌∷◌, ◌++◌, length, Some, true, false, refl, ap, sym, subst, ◌∙◌, arith}
-use Rattle.smil_model.specs.declared.limits.TheConstants.{LINE_BYTES}
+use Rattle.std.proofs.Common.{◌≡◌, ℕ, [], ◌∷◌, ◌++◌, Some, true, false, refl, ap, sym, subst, ◌∙◌, arith}
 use Rattle.std.proofs.KnownBytes.{Appends-nil}
 use Rattle.smil_grammar.specs.Scripts.{is_blank}
 use Rattle.smil_script.specs.Loads.{ends_load}
 use Rattle.smil_top.specs.declared.run.Run.{Run}
 use Rattle.smil_top.specs.Cut.{NumberedLine, LoadLines, with_line}
-use Rattle.smil_top.specs.Running.{IsLine}
 use Rattle.smil_top.proofs.CutLines.{cut-ends, cut-long_node, cut-node}
-use Rattle.smil_top.proofs.Tells.{Shows, running-order, running-load, tells-on}
+use Rattle.smil_top.proofs.Tells.{Shows, shown-line, running-order, running-load, tells-on}
 use Rattle.smil_top.proofs.run.Run.line_inside.Goals as goal
 use Rattle.smil_top.proofs.run.Run.line_inside.Goals.{in_default-via-in-Some-2+else-is_blank, in_default-via-in_default}
 
 pub returns-in-Some-clause-answers : goal.returns-in-Some-clause-answers
 returns-in-Some-clause-answers g c checks cut lines told line within read tells number shows =
     let count : ℕ = c.args.next.now.number in
-    let is : IsLine (Some c.in-Some.text.now) line = subst (λ o. Shows o line) c.in-Some.is shows in
-    let same : line ≡ c.in-Some.text.now = is.0 in
-    let short : length line ≤ LINE_BYTES = subst (λ zs. length zs ≤ LINE_BYTES) (sym same) is.1 in
-    let ended : ends_load line ≡ true = ap ends_load same ∙ sym c.ends_load.ensures ∙ c.if-ends_load.true in
-    running-order (cut-ends cut count line number lines within short ended) (c.end_load.ensures.load ∙ c.requires.outside) (c.end_load.ensures.answers checks cut.whole lines told read tells)
+    let is = shown-line c.in-Some.is shows in
+    let ended : ends_load line ≡ true = ap ends_load is.0 ∙ sym c.ends_load.ensures ∙ c.if-ends_load.true in
+    running-order (cut-ends cut count line number lines within is.1 ended) (c.end_load.ensures.load ∙ c.requires.outside) (c.end_load.ensures.answers checks cut.whole lines told read tells)
 
 pub returns-in_default-clause-answers : goal.returns-in_default-clause-answers
 returns-in_default-clause-answers g c checks cut lines told line within read tells number shows =
@@ -29,14 +25,10 @@ returns-in_default-clause-answers g c checks cut lines told line within read tel
     let new : Run = record run { load = Some c.push.result } in
     let read_on : with_line cut line ≡ record { count = count; whole = cut.whole; «open» = Some more } = elim c.in_default.branch [
       | in_default-via-in-Some-2+else-is_blank w ↦
-          (let is : IsLine (Some w.in-Some.text.now) line = subst (λ o. Shows o line) w.in-Some.is shows in
-          let same : line ≡ w.in-Some.text.now = is.0 in
-          let is2 : IsLine (Some w.in-Some-2.text.now) line = subst (λ o. Shows o line) w.in-Some-2.is shows in
-          let same2 : line ≡ w.in-Some-2.text.now = is2.0 in
-          let short : length line ≤ LINE_BYTES = subst (λ zs. length zs ≤ LINE_BYTES) (sym same) is.1 in
-          let ended : ends_load line ≡ false = ap ends_load same ∙ sym w.ends_load.ensures ∙ w.if-ends_load.false in
-          let blank : is_blank line ≡ false = ap is_blank same2 ∙ sym w.is_blank.ensures ∙ w.if-is_blank.false in
-          cut-node cut count line number lines within short ended blank)
+          (let is = shown-line w.in-Some.is shows in
+          let ended : ends_load line ≡ false = ap ends_load is.0 ∙ sym w.ends_load.ensures ∙ w.if-ends_load.false in
+          let blank : is_blank line ≡ false = ap is_blank (shown-line w.in-Some-2.is shows).0 ∙ sym w.is_blank.ensures ∙ w.if-is_blank.false in
+          cut-node cut count line number lines within is.1 ended blank)
       | in_default-via-in_default w ↦
           cut-long_node cut count line number lines within (subst (λ o. Shows o line) w.in_default.is shows)
     ] in

@@ -1,4 +1,4 @@
-use Rattle.std.proofs.Common.{◌≡◌, ◌<◌, ◌≤◌, ℕ, [], ◌∷◌, ◌++◌, length, Some, None, Err, false, true, refl, ap, sym, subst, ◌∙◌, arith}
+use Rattle.std.proofs.Common.{◌≡◌, ◌<◌, ℕ, [], ◌∷◌, ◌++◌, length, Some, None, Err, false, true, refl, ap, sym, subst, ◌∙◌, arith}
 use Rattle.std.proofs.KnownBytes.{Appends-nil}
 use Rattle.smil_model.specs.declared.limits.TheConstants.{LINE_BYTES}
 use Rattle.smil_model.specs.declared.order.Refusal.TheVariants.{LongLine}
@@ -7,10 +7,10 @@ use Rattle.smil_top.specs.declared.fault.Fault.{Fault}
 use Rattle.smil_top.specs.declared.run.Run.{Run}
 use Rattle.smil_top.specs.Cut.{OrderLines, NumberedLine, LoadLines, single, with_line}
 use Rattle.smil_top.specs.Evaluations.{number_of}
-use Rattle.smil_top.specs.Running.{IsRead, IsLine}
+use Rattle.smil_top.specs.Running.{IsRead}
 use Rattle.smil_top.proofs.CutLines.{cut-long, cut-opens}
 use Rattle.smil_top.proofs.Evaluated.{counted-fault, evaluated-cut, evaluated-more}
-use Rattle.smil_top.proofs.Tells.{Shows, long-made, told-order, running-order, running-load, tells-on}
+use Rattle.smil_top.proofs.Tells.{Shows, shown-line, long-made, told-order, running-order, running-load, tells-on}
 use Rattle.smil_top.proofs.run.Run.line_outside.Goals as goal
 
 pub returns-in-None-clause-answers : goal.returns-in-None-clause-answers
@@ -27,17 +27,15 @@ pub returns-in-Some-clause-answers : goal.returns-in-Some-clause-answers
 returns-in-Some-clause-answers g c checks cut told line out tells number shows =
     let run : Run = c.args.self.now in
     let count : ℕ = c.args.next.now.number in
-    let is : IsLine (Some c.in-Some.text.now) line = subst (λ o. Shows o line) c.in-Some.is shows in
-    let same : line ≡ c.in-Some.text.now = is.0 in
-    let short : length line ≤ LINE_BYTES = subst (λ zs. length zs ≤ LINE_BYTES) (sym same) is.1 in
-    let opened : opens_load line ≡ true = ap opens_load same ∙ sym c.opens_load.ensures ∙ c.if-opens_load.true in
+    let is = shown-line c.in-Some.is shows in
+    let opened : opens_load line ≡ true = ap opens_load is.0 ∙ sym c.opens_load.ensures ∙ c.if-opens_load.true in
     let this : NumberedLine = record { number = count; text = line } in
     let lines : LoadLines = record { head = this; nodes = [] } in
     let read : IsRead c.open.result lines =
-    subst (λ zs. IsRead c.open.result (record { head = record { number = count; text = zs }; nodes = [] })) (sym same) c.open.ensures
+    subst (λ zs. IsRead c.open.result (record { head = record { number = count; text = zs }; nodes = [] })) (sym is.0) c.open.ensures
     in
     let new : Run = record run { load = Some c.open.result } in
-    running-load (cut-opens cut count line number out short opened) refl read (tells-on checks run new cut.whole told refl refl tells) (Appends-nil (g.K.Sink.taken c.args.sink.now), omega arith)
+    running-load (cut-opens cut count line number out is.1 opened) refl read (tells-on checks run new cut.whole told refl refl tells) (Appends-nil (g.K.Sink.taken c.args.sink.now), omega arith)
 
 pub returns-in-None-clause-evaluated : goal.returns-in-None-clause-evaluated
 returns-in-None-clause-evaluated g c cut told line out tells number shows =

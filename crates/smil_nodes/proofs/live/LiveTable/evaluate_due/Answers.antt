@@ -1,4 +1,4 @@
-use Rattle.std.proofs.Common.{◌≡◌, ◌∙◌, ap, sym, subst, refl, List, ℕ, ◌<◌, length, drop, get_or, ℤ, w64, arith, true, false}
+use Rattle.std.proofs.Common.{◌≡◌, ◌∙◌, ap, sym, subst, refl, List, ℕ, ◌<◌, length, drop, get_or, ℤ, w64, arith, true, false, inl, inr}
 use Rattle.std.specs.Prelude.{◌==◌, ◌||◌, ◌⊎◌, nat_eq}
 use Rattle.std.specs.List.{IsDistinct}
 use Rattle.std.proofs.lemmas.Bool.{or_cases, or_parts}
@@ -16,18 +16,18 @@ use Rattle.smil_cells.proofs.Current.{ordered_element}
 use Rattle.smil_cells.proofs.Taking.{unchanged_both, unchanged_none}
 use Rattle.smil_nodes.specs.Endings.{AreKnown}
 use Rattle.smil_nodes.specs.Marked.{GoesBack}
-use Rattle.smil_nodes.specs.Work.{AreSettled, IsCounted, IsUnlisted, gap_from, is_later_reader}
+use Rattle.smil_nodes.specs.Work.{AreSettled, HasSame, IsCounted, IsUnlisted, gap_from, is_later_reader}
 use Rattle.smil_nodes.proofs.Gap.{gap_falls}
 use Rattle.smil_nodes.proofs.Fixed.{current_intervals}
-use Rattle.smil_nodes.proofs.Starting.{settled_first, first_reached}
+use Rattle.smil_nodes.proofs.Starting.{first_noted, first_reached, settled_first}
 use Rattle.smil_nodes.proofs.Working.{left_out, others_stay, settled_same, settled_changed}
 use Rattle.smil_nodes.proofs.Tally.{none_counted, one_counted, rank_passed}
-use Rattle.smil_nodes.proofs.Finishing.{counted_least, counted_most, settled_current, told_pushed, told_same, untold_stay}
-use Rattle.smil_nodes.proofs.Refreshing.{differ_in, from_taken, is_order, later_told, noted_told, noted_within, rest_of}
+use Rattle.smil_nodes.proofs.Finishing.{counted_least, counted_most, evaluated_due, settled_current, told_pushed, told_same, untold_stay}
+use Rattle.smil_nodes.proofs.Refreshing.{differ_in, is_order, later_told, noted_told, noted_within, rest_of}
 use Rattle.smil_nodes.proofs.Knowing.{all_unlisted, children_unlisted, known_ended, known_first, knows, unlisted_next}
-use Rattle.smil_nodes.proofs.live.LiveTableTable.refresh.Given.{Over}
-use Rattle.smil_nodes.proofs.live.LiveTableTable.refresh.Goals as goal
-use Rattle.smil_nodes.proofs.live.LiveTableTable.refresh.Goals.{In_ok-evaluate, In_ok-put_readers}
+use Rattle.smil_nodes.proofs.live.LiveTable.evaluate_due.Given.{Over}
+use Rattle.smil_nodes.proofs.live.LiveTable.evaluate_due.Goals as goal
+use Rattle.smil_nodes.proofs.live.LiveTable.evaluate_due.Goals.{In_ok-evaluate, In_ok-put_readers}
 
 pub loop-rank-init : goal.loop-rank-init
 loop-rank-init g c =
@@ -45,7 +45,8 @@ loop-rank-init g c =
       subst (λ (m : ℤ). AreSettled (history_of past) m order listed rows) (sym (to_z-of_z w64 c.args.since.now.moment (present_fits c.args.since.now.past.now c.args.since.now.moment c.requires.moment)))
           (settled_first past c.args.since.now.from c.args.since.now.moment order rows listed in_order is apart told c.requires.before.rows_are),
       none_counted nodes past.log (drop c.args.since.now.from past.diary) order rows c.args.steps.now listed within
-          (first_reached past c.args.since.now.from c.args.since.now.moment order rows listed in_order is apart told within),
+          (first_reached past c.args.since.now.from c.args.since.now.moment order rows listed in_order is apart told within)
+          (first_noted past c.args.since.now.from c.args.since.now.moment order rows listed in_order is apart told within),
       unchanged_none c.args.changed.now rows,
       λ m. (refl, refl),
       refl,
@@ -96,9 +97,27 @@ evaluated g c =
       others = others_stay (history_of past) _ (get_or order c.in-Some.rank 0) c.loop-rank.self.schedule c.evaluate.new.self.schedule distinct (c.loop-rank.invariant.0).of_elements c.in_ok-evaluate.ensures.taken;
     }
 
--- only what was listed, and later readers of the element, are listed from now on
+-- the interval of the element is another
+abbrev Changes : (g : Over) (c : In_ok-evaluate g) → Type 0
+Changes g c = HasSame (get_or c.order-order.result.now c.in-Some.rank 0) c.loop-rank.self.schedule c.evaluate.new.self.schedule → ⊥
+
+-- only what was listed, and later readers of the element where it changes, are listed from now on
 abbrev ListsLater : (g : Over) (c : In_ok-evaluate g) → List ℕ → Type 0
-ListsLater g c new = (r : ℕ) → has new r ≡ true → (has c.take_first.new.self r ≡ true) ⊎ (is_later_reader c.args.since.now.past.now.document.nodes c.order-order.result.now c.in-Some.rank (get_or c.order-order.result.now c.in-Some.rank 0) r ≡ true)
+ListsLater g c new =
+    (r : ℕ) → has new r ≡ true
+    → (has c.take_first.new.self r ≡ true)
+    ⊎ ((is_later_reader c.args.since.now.past.now.document.nodes c.order-order.result.now c.in-Some.rank (get_or c.order-order.result.now c.in-Some.rank 0) r ≡ true) × Changes g c)
+
+-- what was listed is, and nothing else
+listed_still : (g : Over) (c : In_ok-evaluate g) → ListsLater g c c.evaluate.new.self.agenda
+listed_still g c r on = inl (sym (ap (λ l. has l r) c.in_ok-evaluate.ensures.agenda) ∙ on)
+
+-- and the later readers are too
+listed_more : (g : Over) (c : In_ok-evaluate g) (new : List ℕ)
+    → ((r : ℕ) → has new r ≡ (has c.take_first.new.self r || is_later_reader c.args.since.now.past.now.document.nodes c.order-order.result.now c.in-Some.rank (get_or c.order-order.result.now c.in-Some.rank 0) r))
+    → Changes g c → ListsLater g c new
+listed_more g c new told changes r on =
+    elim (or_cases _ _ (sym (told r) ∙ on)) [ inl was ↦ inl was | inr later ↦ inr (later, changes) ]
 
 falls : (g : Over) (c : In_ok-evaluate g) (new : List ℕ) → ListsLater g c new → gap_from (has new) (length c.order-order.result.now) 0 < gap_from (has c.loop-rank.self.agenda) (length c.order-order.result.now) 0
 falls g c new from =
@@ -138,7 +157,7 @@ told_later g c = later_told c.graph-graph.result.now c.args.since.now.past.now.d
 pub loop-rank-smaller-in-Continue-branch-4 : goal.loop-rank-smaller-in-Continue-branch-4
 loop-rank-smaller-in-Continue-branch-4 g c =
     let all = goal.at.loop-rank-smaller-in-Continue-branch-4 g c in
-    falls g all.In_ok-evaluate c.put_readers.new.agenda (λ r on. or_cases _ _ (sym (told_later g all.In_ok-put_readers r) ∙ on))
+    falls g all.In_ok-evaluate c.put_readers.new.agenda (listed_more g all.In_ok-evaluate c.put_readers.new.agenda (told_later g all.In_ok-put_readers) (λ same. let never : true ≡ false = sym c.if-branch.true ∙ c.in_ok-evaluate.ensures.same.1 same in cc))
 
 pub loop-rank-preserved-in-Continue-branch-4 : goal.loop-rank-preserved-in-Continue-branch-4
 loop-rank-preserved-in-Continue-branch-4 g c =
@@ -148,7 +167,7 @@ loop-rank-preserved-in-Continue-branch-4 g c =
     let old = c.loop-rank.self.agenda in (
       settled_changed (history_of c.args.since.now.past.now) _ _ c.loop-rank.self.schedule c.evaluate.new.self.schedule c.possible.ensures.valid.numbered.distinct (c.loop-rank.invariant.0).of_elements c.in_ok-evaluate.ensures.taken c.order-order.result.now c.in-Some.rank e.is e.within refl
           (has old) (has c.take_first.new.self) (has c.put_readers.new.agenda) e.apart c.loop-rank.invariant.0 c.in-Some.ensures.rest told,
-      counted g all.In_ok-evaluate c.put_readers.new.agenda (λ r on. or_cases _ _ (sym (told r) ∙ on)),
+      counted g all.In_ok-evaluate c.put_readers.new.agenda (listed_more g all.In_ok-evaluate c.put_readers.new.agenda (told_later g all.In_ok-put_readers) (λ same. let never : true ≡ false = sym c.if-branch.true ∙ c.in_ok-evaluate.ensures.same.1 same in cc)),
       unchanged_both c.args.changed.now c.loop-rank.changed c.push.new.self c.args.self.now.schedule c.loop-rank.self.schedule c.evaluate.new.self.schedule c.loop-rank.invariant.2
           (told_pushed c.loop-rank.changed c.push.new.self _ c.loop-rank.self.schedule c.evaluate.new.self.schedule e.others c.in_ok-push.ensures.ok),
       goes_back g all.In_ok-evaluate,
@@ -159,8 +178,8 @@ loop-rank-preserved-in-Continue-branch-4 g c =
 
 pub loop-rank-smaller : goal.loop-rank-smaller
 loop-rank-smaller g c =
-    falls g (goal.at.loop-rank-smaller g c).In_ok-evaluate c.evaluate.new.self.agenda
-    (from_taken c.args.since.now.past.now.document.nodes c.order-order.result.now c.take_first.new.self c.evaluate.new.self.agenda c.in-Some.rank _ c.in_ok-evaluate.ensures.agenda)
+    let all = (goal.at.loop-rank-smaller g c).In_ok-evaluate in
+    falls g all c.evaluate.new.self.agenda (listed_still g all)
 
 pub loop-rank-preserved : goal.loop-rank-preserved
 loop-rank-preserved g c =
@@ -169,10 +188,10 @@ loop-rank-preserved g c =
     let old = c.loop-rank.self.agenda in
     let new = c.evaluate.new.self.agenda in
     let rest = rest_of old c.take_first.new.self new c.in-Some.rank c.in_ok-evaluate.ensures.agenda c.in-Some.ensures in
-    let stays = c.in_ok-evaluate.ensures.same c.if-branch.false in (
+    let stays = c.in_ok-evaluate.ensures.same.0 c.if-branch.false in (
       settled_same (history_of c.args.since.now.past.now) _ _ c.loop-rank.self.schedule c.evaluate.new.self.schedule c.possible.ensures.valid.numbered.distinct (c.loop-rank.invariant.0).of_elements c.in_ok-evaluate.ensures.taken c.order-order.result.now c.in-Some.rank e.is e.within refl
           (has old) (has new) c.loop-rank.invariant.0 rest stays,
-      counted g all new (from_taken c.args.since.now.past.now.document.nodes c.order-order.result.now c.take_first.new.self new c.in-Some.rank _ c.in_ok-evaluate.ensures.agenda),
+      counted g all new (listed_still g all),
       unchanged_both c.args.changed.now c.loop-rank.changed c.loop-rank.changed c.args.self.now.schedule c.loop-rank.self.schedule c.evaluate.new.self.schedule c.loop-rank.invariant.2
           (told_same c.loop-rank.changed c.loop-rank.changed _ c.loop-rank.self.schedule c.evaluate.new.self.schedule e.others refl stays),
       goes_back g all,
@@ -207,6 +226,16 @@ pub returns-clause-most : goal.returns-clause-most
 returns-clause-most g c =
     counted_most c.args.since.now.past.now.document.nodes c.args.since.now.past.now.log (drop c.args.since.now.from c.args.since.now.past.now.diary) c.order-order.result.now (has c.loop-rank.self.agenda)
     c.args.self.now.schedule c.loop-rank.self.schedule c.args.steps.now c.loop-rank.steps c.loop-rank.invariant.1
+
+pub returns-clause-due : goal.returns-clause-due
+returns-clause-due g c =
+    let past = c.args.since.now.past.now in
+    let before = front past c.args.since.now.from in
+    evaluated_due past.document.nodes past.log (drop c.args.since.now.from past.diary) c.order-order.result.now (has c.loop-rank.self.agenda)
+    c.args.self.now.schedule c.loop-rank.self.schedule c.args.steps.now c.loop-rank.steps c.loop-rank.invariant.1
+    (current_interval before c.args.since.now.moment) (current_interval (history_of past) c.args.since.now.moment)
+    (current_intervals c.args.self.now.schedule before c.args.since.now.moment c.requires.before.rows_are)
+    (current_intervals c.loop-rank.self.schedule (history_of past) c.args.since.now.moment (returns-clause-current g c).rows_are)
 
 pub returns-clause-least : goal.returns-clause-least
 returns-clause-least g c =

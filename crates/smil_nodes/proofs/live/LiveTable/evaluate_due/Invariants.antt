@@ -6,7 +6,7 @@ use Rattle.smil_cells.specs.Round.{StayUnchanged}
 use Rattle.smil_nodes.specs.Endings.{AreKnown}
 use Rattle.smil_nodes.specs.Marked.{GoesBack}
 use Rattle.smil_nodes.specs.Work.{AreSettled, IsCounted, IsUnlisted, gap_from}
-use Rattle.smil_nodes.proofs.live.LiveTableTable.refresh.Given as goal
+use Rattle.smil_nodes.proofs.live.LiveTable.evaluate_due.Given as goal
 
 -- the elements that are not listed are settled, with their endings, and those that were evaluated are counted; the mark stays
 abbrev pub invariant-loop-rank : goal.invariant-loop-rank
