@@ -7,7 +7,7 @@ use Rattle.smil_model.specs.declared.diary.Entry.{Entry}
 use Rattle.smil_model.specs.declared.diary.LogEntry.{LogEntry}
 use Rattle.smil_model.specs.declared.interval.Interval.{Interval}
 use Rattle.smil_model.specs.declared.document.Node.{Node}
-use Rattle.smil_model.specs.document.Document.{elements}
+use Rattle.smil_model.specs.document.Document.{elements, node_at}
 use Rattle.smil_model.specs.document.Closure.{has}
 use Rattle.smil_model.specs.document.Valid.{IsDistinct}
 use Rattle.smil_model.specs.diary.Diary.{History}
@@ -24,6 +24,7 @@ use Rattle.smil_cells.proofs.OnWay.{same_self}
 use Rattle.smil_nodes.specs.Work.{AreDueOnce, AreSettled, IsCounted, IsDue}
 use Rattle.smil_nodes.proofs.Counting.{passing_within, within_reaches}
 use Rattle.smil_nodes.proofs.Fixed.{current_intervals}
+use Rattle.smil_nodes.proofs.Ranked.{element_of}
 use Rattle.smil_laws.proofs.Lists.{filter_shorter}
 
 -- rows that are as the intervals of all give them are current
@@ -73,11 +74,15 @@ module _ (nodes : List Node) (log : List LogEntry) (entries : List Entry) (order
       omega (arith, steps_are, most)
 
   -- the elements that are due by the intervals at the end, each once
-  pub evaluated_due : (before after : ℕ → Option Interval) → ((s : ℕ) → interval_in first s ≡ before s) → ((s : ℕ) → interval_in rows s ≡ after s) → AreDueOnce nodes log entries before after (steps - start)
-  evaluated_due before after was is = record {
+  pub evaluated_due : IsGraphOrder nodes order → (before after : ℕ → Option Interval) → ((s : ℕ) → interval_in first s ≡ before s) → ((s : ℕ) → interval_in rows s ≡ after s) → AreDueOnce nodes log entries before after (steps - start)
+  evaluated_due ordered before after was is = record {
     evaluated = counted.taken;
     as_many = let steps_are : steps ≡ start + length counted.taken = counted.steps_are in omega (arith, steps_are);
     distinct = counted.distinct;
+    are_elements = λ s q.
+        let ranked = counted.below s q in
+        let there = element_of nodes order ranked.rank ordered ranked.within in
+        ap (λ x. is_some (node_at (elements nodes) x)) (sym ranked.at ∙ sym there.1) ∙ ap is_some there.2;
     due = λ s q. is_due s (counted.due s q);
   }
     where

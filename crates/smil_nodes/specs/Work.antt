@@ -1,11 +1,11 @@
 -- Elements evaluated in their order, in which each has a rank; those with listed ranks are left.
-use Rattle.std.specs.Prelude.{◌≡◌, ℕ, ◌<◌, ◌≤◌, ◌+◌, zero, suc, ℤ, List, nat_lt, nat_eq, ◌==◌, Bool, true, false, ◌&&◌, ◌||◌, ◌⊎◌, Option, Some, slice_get, slice_index, length, if◌then◌else◌}
+use Rattle.std.specs.Prelude.{◌≡◌, ℕ, ◌<◌, ◌≤◌, ◌+◌, zero, suc, ℤ, List, nat_lt, nat_eq, ◌==◌, Bool, true, false, ◌&&◌, ◌||◌, ◌⊎◌, Option, Some, slice_get, slice_index, length, is_some, if◌then◌else◌}
 use Rattle.std.specs.List.{IsDistinct, list_any, position}
 use Rattle.smil_model.specs.declared.diary.Entry.{Entry}
 use Rattle.smil_model.specs.declared.diary.LogEntry.{LogEntry}
 use Rattle.smil_model.specs.declared.interval.Interval.{Interval}
 use Rattle.smil_model.specs.declared.document.Node.{Node}
-use Rattle.smil_model.specs.document.Document.{elements}
+use Rattle.smil_model.specs.document.Document.{elements, node_at}
 use Rattle.smil_model.specs.document.Closure.{has}
 use Rattle.smil_model.specs.diary.Diary.{History}
 use Rattle.smil_model.specs.reach.Reach.{is_option, reads}
@@ -73,12 +73,14 @@ IsDue nodes log entries before after s =
     (is_noted_by nodes log entries s ≡ true)
     ⊎ ((x : ℕ) × (reads nodes x s ≡ true) × (after x ≡ before x → ⊥))
 
--- these are so many evaluations: of elements that are due, and of none twice
+-- so many evaluations are made: of elements that are due, and of none twice
 pub record AreDueOnce (nodes : List Node) (log : List LogEntry) (entries : List Entry)
     (before after : ℕ → Option Interval) (evaluations : ℕ) : Type 0 where
   pub evaluated : List ℕ
   pub as_many : evaluations ≡ length evaluated
   pub distinct : IsDistinct nat_eq evaluated
+  pub are_elements :
+      (s : ℕ) → has evaluated s ≡ true → is_some (node_at (elements nodes) s) ≡ true
   pub due : (s : ℕ) → has evaluated s ≡ true → IsDue nodes log entries before after s
 
 -- each evaluation is a step, and no element is evaluated twice; those that were, and those that

@@ -183,9 +183,9 @@ impl LiveTable {
         Ok(())
     }
 
-    // Takes in the entries from an index on, as the trait says of `refresh`. Evaluated are, each
-    // once, elements alone that the entries have listed, or that read one whose interval is another
-    // behind them.
+    // Does what the trait says of `refresh`. No element is evaluated twice, and each one that is
+    // evaluated is due: the entries have it listed, or it reads one whose interval is another
+    // behind them than before.
     fn evaluate_due<L: Ledger>(
         &mut self,
         since: &Since<'_>,

@@ -233,6 +233,7 @@ returns-clause-due g c =
     let before = front past c.args.since.now.from in
     evaluated_due past.document.nodes past.log (drop c.args.since.now.from past.diary) c.order-order.result.now (has c.loop-rank.self.agenda)
     c.args.self.now.schedule c.loop-rank.self.schedule c.args.steps.now c.loop-rank.steps c.loop-rank.invariant.1
+    (is_order c.graph-graph.result.now past.document.nodes c.order-order.result.now c.graph-graph.ensures c.order-order.ensures.order)
     (current_interval before c.args.since.now.moment) (current_interval (history_of past) c.args.since.now.moment)
     (current_intervals c.args.self.now.schedule before c.args.since.now.moment c.requires.before.rows_are)
     (current_intervals c.loop-rank.self.schedule (history_of past) c.args.since.now.moment (returns-clause-current g c).rows_are)
