@@ -13,3 +13,4 @@ pub mod Kept
 pub mod Printed
 pub mod Filled
 pub mod Noded
+pub mod Near

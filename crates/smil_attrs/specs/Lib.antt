@@ -1,3 +1,4 @@
 pub mod Reads
 pub mod Remainder
 pub mod Writable
+pub mod Within

@@ -119,8 +119,8 @@ impl<'a> Attributes<'a> {
         runs::is_spaces(left.text)
     }
 
-    // Whether an attribute of this name is left.
-    fn has(&self, name: &[u8]) -> bool
+    /// Whether an attribute of this name is left.
+    pub fn has(&self, name: &[u8]) -> bool
         requires { IsSome (attributes_in self.now) }
         ensures { result ≡ list_any (λ (other : WrittenText). bytes_eq other.name name.now)
             (written_in self.now) }

@@ -2,6 +2,7 @@
 
 use super::fault::Fault;
 use super::lines::end_line;
+use super::printed::put;
 use super::words::Words;
 use smil_model::Bytes;
 use std::alloc::{AllocError, Global};
@@ -13,7 +14,8 @@ pub trait Cases {
     fn answer(alloc: Global, words: &mut Words<'_>, out: &mut Bytes) -> Result<(), Fault>;
 }
 
-/// Writes what answers each case of an input, a line each.
+/// Writes what answers each case of an input, a line each. A line that begins with `# ` is a heading
+/// of the cases behind it, and is written as it stands.
 pub fn answer_cases<C, R, W>(alloc: Global, input: R, output: W) -> io::Result<()>
 where
     C: Cases,
@@ -22,7 +24,11 @@ where
 {
     let mut out = BufWriter::new(alloc, output)?;
     answer_lines(alloc, input, &mut out, |line, text| {
-        let outcome = C::answer(alloc, &mut Words::of_line(line), text);
+        let outcome = if line.starts_with("# ") {
+            put(text, line).map_err(Fault::from)
+        } else {
+            C::answer(alloc, &mut Words::of_line(line), text)
+        };
         end_line(text, outcome)
     })?;
     out.flush()

@@ -25,8 +25,8 @@ use Rattle.smil_past.specs.Past.{MarkedHistory, IsPossible, IsPresent}
 use Rattle.smil_cells.specs.CellsState.{CellsState, IsRebuilt, MayRebuild, cut_log}
 use Rattle.smil_diary.specs.declared.fault.BookFault.{BookFault}
 use Rattle.smil_cells.specs.Standings.{IsSoundUnderMark, MayBegin, begun, marked_by}
-use Rattle.smil_cells.proofs.Heeded.{first_is_log, heeded}
-use Rattle.smil_cells.proofs.Grown.{positive}
+use Rattle.smil_rounds.proofs.Heeded.{first_is_log, heeded}
+use Rattle.smil_rounds.proofs.Moments.{positive}
 use Rattle.smil_model.proofs.Orders.{le_from}
 
 module _ (past : MarkedHistory) (moment : ℤ) (may : MayBegin past moment) where

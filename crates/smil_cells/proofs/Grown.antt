@@ -1,10 +1,7 @@
 -- Cells whose diary has grown by a group, and the course that has come a step further.
-use Rattle.std.proofs.Common.{◌≡◌, refl, sym, ◌∙◌, ap, subst, ℕ, suc, zero, ◌+◌, ◌-◌, ◌<◌, ◌≤◌, List, [], ◌∷◌, ◌++◌, Option, Some, None, ℤ, Bool, true, false, arith, length, take, drop, append_assoc, length-append, FitsSigned, w64}
+use Rattle.std.proofs.Common.{◌≡◌, refl, sym, ◌∙◌, ap, subst, ℕ, suc, zero, ◌+◌, ◌-◌, ◌<◌, ◌≤◌, List, [], ◌∷◌, ◌++◌, Option, Some, None, ℤ, Bool, true, false, arith, length, take, drop, append_assoc, length-append}
 use Rattle.std.proofs.Math.Seq.{drop-append_seam, take-append_seam}
-use Rattle.std.proofs.lemmas.List.Elements.{filter-append}
-use Rattle.std.specs.Prelude.{pos, negsuc, nat_abs, ◌≤ℤ◌, int_le, cond, is_some, slice_get}
-use Rattle.std.specs.List.{AllByRecursion}
-use Rattle.std.proofs.lemmas.Int.{ints}
+use Rattle.std.specs.Prelude.{pos, nat_abs, ◌≤ℤ◌, cond, slice_get}
 use Rattle.smil_model.specs.declared.diary.Entry.{Entry}
 use Rattle.smil_model.specs.declared.diary.LogEntry.{LogEntry}
 use Rattle.smil_model.specs.declared.diary.Step.{Step}
@@ -12,62 +9,36 @@ use Rattle.smil_model.specs.declared.document.Node.{Node}
 use Rattle.smil_model.specs.declared.times.TheConstants.{HORIZON}
 use Rattle.smil_model.specs.declared.limits.TheConstants.{DIARY_ENTRIES}
 use Rattle.smil_model.specs.document.Document.{Document, elements, node_at}
-use Rattle.smil_model.specs.document.Valid.{IsDistinct, IsNumberedTree}
-use Rattle.smil_model.specs.diary.Diary.{History, last_moment}
-use Rattle.smil_model.specs.diary.Lawful.{IsLawful, has_element}
-use Rattle.smil_model.specs.diary.Clocks.{until}
+use Rattle.smil_model.specs.document.Valid.{IsNumberedTree}
+use Rattle.smil_model.specs.diary.Diary.{History}
+use Rattle.smil_model.specs.diary.Lawful.{IsLawful}
 use Rattle.smil_model.specs.happening.Keys.{Change, DueChange, coming, first_coming, is_due}
 use Rattle.smil_model.specs.happening.Groups.{at_moment, group, steps_of}
 use Rattle.smil_model.specs.happening.Resolution.{Progress, Reaches, next_step, after_coming, after_settling, history_at, outset}
 use Rattle.smil_model.specs.shown.Orders.{IsState}
 use Rattle.smil_laws.specs.Agreement.{course_on}
-use Rattle.smil_laws.specs.Cut.{IsNamedBelow, NamesBelow}
+use Rattle.smil_laws.specs.Cut.{NamesBelow}
 use Rattle.smil_laws.proofs.ResolvedSteps.{resolved_lawful}
-use Rattle.smil_stretch.proofs.Diaries.{lawful_first}
 use Rattle.smil_diary.specs.declared.fault.BookFault.{BookFault}
 use Rattle.smil_laws.specs.Courses.{ReachedIsPast}
-use Rattle.smil_laws.specs.Near.{AllNear, HasNear, ResolvedIsNear}
+use Rattle.smil_laws.specs.Near.{AllNear, ResolvedIsNear}
 use Rattle.smil_laws.specs.Seen.{LeavesViews, any_shows}
 use Rattle.smil_model.specs.document.Closure.{has}
 use Rattle.smil_model.specs.interval.Current.{current_interval}
 use Rattle.smil_laws.proofs.Numbered.{ordered}
 use Rattle.smil_laws.proofs.Grouped.{group_filled}
 use Rattle.smil_past.specs.Past as past_of
+use Rattle.smil_rounds.specs.Appended.{MayAppendAll}
+use Rattle.smil_rounds.proofs.Following.{all_may}
+use Rattle.smil_rounds.proofs.Moments.{positive}
 use Rattle.smil_cells.proofs.Longer.{same_mark, with_entries}
 use Rattle.smil_cells.proofs.OnWay.{untouched}
-use Rattle.smil_laws.specs.Firsts.{FirstIsOfElement}
 use Rattle.smil_past.specs.Past.{MarkedHistory, IsPresent, with_diary}
-use Rattle.smil_cells.specs.CellsState.{IsFront, IsNext, IsReached, WhereTold, first_at, fresh, fresh_since, MayAppendAll}
-use Rattle.smil_stretch.specs.Clocks.{AreClocksOf}
-use Rattle.smil_past.specs.Queues.{kept_queues}
-use Rattle.smil_element.specs.declared.happening.parts.Parts.{Parts}
-use Rattle.smil_element.specs.Parts.{ArePartsOf}
+use Rattle.smil_cells.specs.CellsState.{IsFront, IsNext, IsReached, WhereTold, first_at, fresh, fresh_since}
+use Rattle.smil_rounds.specs.Appended.{MayAppendAll}
 use Rattle.smil_cells.specs.Standings.{begun, standing_of}
-use Rattle.smil_model.proofs.Orders.{le_self, is_le}
-use Rattle.smil_instances.proofs.Targets.{known_node}
+use Rattle.smil_model.proofs.Orders.{is_le}
 use Rattle.smil_laws.proofs.Cutting.{one_more}
-use Rattle.smil_element.proofs.Latest.{last_from}
-
-pub fits : (z : ℤ) → pos 0 ≤ℤ z → z ≤ℤ HORIZON → FitsSigned w64 z
-fits (pos k) from within = record { sfits = omega (arith, ints, from, within) }
-fits (negsuc k) from within = absurd (omega (arith, ints, from))
-
-pub until_moment : (m : ℤ) (steps : List Step) → until m (at_moment m steps) ≡ at_moment m steps
-until_moment m [] = refl
-until_moment m (x ∷ xs) = rw (le_self m) (ap (λ (k : List Entry). record { moment = m; step = x } ∷ k) (until_moment m xs))
-
--- the entries of a moment leave it the moment
-pub present_with : (past : MarkedHistory) (m : ℤ) (steps : List Step) → IsPresent past m → IsPresent (with_diary past (past.diary ++ at_moment m steps)) m
-present_with past m steps was = record {
-  past_is = filter-append (λ (x : Entry). int_le x.moment m) past.diary (at_moment m steps) ∙ (ap (λ (k : List Entry). k ++ until m (at_moment m steps)) was.past_is ∙ ap (λ (k : List Entry). past.diary ++ k) (until_moment m steps));
-  from = was.from;
-  within = was.within;
-}
-
--- ---- what comes first is of an element
-
-pub of_element : FirstIsOfElement → (h : History) (now : ℤ) (c : DueChange) → IsDistinct h.nodes → first_coming (coming h now) ≡ Some c → has_element h.nodes c.key.serial ≡ true
-of_element law h now c distinct first = ap (λ (x : Option Node). is_some x) (law h now c distinct first).here
 
 -- ---- one step further
 
@@ -105,53 +76,6 @@ module _ (document : Document) (log : List LogEntry) (now : ℕ) (diary : List E
     pub named_next : ReachedIsPast → NamesBelow (length log) then.diary
     named_next law = (law document log now then reached_next).named
 
--- ---- each step of a group may follow
-
-at_seam : (P : Entry → Type 0) (xs : List Entry) (y : Entry) (ys : List Entry) → AllByRecursion P (xs ++ y ∷ ys) → P y
-at_seam P [] y ys all = all.0
-at_seam P (x ∷ xs) y ys all = at_seam P xs y ys all.1
-
-first_part : (nodes : List Node) (log : List LogEntry) (front rest : List Entry) → IsLawful (record { nodes = nodes; log = log; diary = front ++ rest }) → IsLawful (record { nodes = nodes; log = log; diary = front })
-first_part nodes log front rest lawful =
-    subst (λ (d : List Entry). IsLawful (record { nodes = nodes; log = log; diary = d })) (take-append_seam front rest)
-    (lawful_first (record { nodes = nodes; log = log; diary = front ++ rest }) (length front) lawful)
-
-pub all_may : (past : MarkedHistory) (m : ℤ) (steps : List Step) → IsLawful (record { nodes = past.document.nodes; log = past.log; diary = past.diary ++ at_moment m steps }) → AllNear (past.diary ++ at_moment m steps) → NamesBelow (length past.log) (past.diary ++ at_moment m steps) → MayAppendAll past (at_moment m steps)
-all_may past m [] lawful near named = tt
-all_may past m (x ∷ xs) lawful near named =
-    let y : Entry = record { moment = m; step = x } in
-    let seam : past.diary ++ (y ∷ at_moment m xs) ≡ (past.diary ++ y ∷ []) ++ at_moment m xs = sym (append_assoc past.diary (y ∷ []) (at_moment m xs)) in
-    let whole = subst (λ (d : List Entry). IsLawful (record { nodes = past.document.nodes; log = past.log; diary = d })) seam lawful in (
-      record {
-        lawful = first_part past.document.nodes past.log (past.diary ++ y ∷ []) (at_moment m xs) whole;
-        near = at_seam (λ (e : Entry). HasNear e.step) past.diary y (at_moment m xs) near;
-        named = at_seam (λ (e : Entry). IsNamedBelow (length past.log) e.step) past.diary y (at_moment m xs) named;
-      },
-      all_may (with_diary past (past.diary ++ y ∷ [])) m xs whole
-          (subst (λ (d : List Entry). AllNear d) seam near)
-          (subst (λ (d : List Entry). NamesBelow (length past.log) d) seam named),
-    )
-
--- ---- what the group is told by
-
-pub is_late : (m : ℤ) (diary : List Entry) → pos 0 ≤ℤ m → until m diary ≡ diary → last_moment diary ≤ℤ m
-is_late m diary from is = last_from m (pos 0) diary from is
-
-pub parts : (past : MarkedHistory) (m : ℤ) (given : Parts) → given.moment ≡ m → IsPresent past m
-    → given.tree.now ≡ past.document → given.book.now ≡ past.diary → AreClocksOf given.clocks.now (past_of.history_of past) → given.queues.now ≡ kept_queues (past_of.history_of past)
-    → ArePartsOf given (past_of.history_of past)
-parts past m given whole present d b c q = record {
-  same_nodes = ap (λ (x : Document). x.nodes) (sym d);
-  same_diary = sym b;
-  clocks_are = c;
-  queues_are = record { nodes = ap (λ (x : Document). x.nodes) (sym d); value = q };
-  moment_is = record { low = subst (λ (v : ℤ). pos 0 ≤ℤ v) (sym whole) present.from; high = subst (λ (v : ℤ). v ≤ℤ HORIZON) (sym whole) present.within };
-  late = subst (λ (v : ℤ). last_moment past.diary ≤ℤ v) (sym whole) (is_late m past.diary present.from present.past_is);
-}
-
-pub known_in : (past : MarkedHistory) (document : Document) (s : ℕ) → document ≡ past.document → has_element past.document.nodes s ≡ true → is_some (node_at document.nodes s) ≡ true
-known_in past document s is q = subst (λ (d : Document). is_some (node_at d.nodes s) ≡ true) (sym is) (known_node past.document.nodes s q)
-
 take_at : (m : ℤ) (k : ℕ) (steps : List Step) → take k (at_moment m steps) ≡ at_moment m (take k steps)
 take_at m zero steps = refl
 take_at m (suc k) [] = refl
@@ -176,10 +100,6 @@ module _ (past : MarkedHistory) (m : ℤ) (steps : List Step) (entries : List En
   many_now d l = let e = ap (λ (x : List Entry). length x) made ∙ length_at m steps in omega (arith, e, l)
 
 -- ---- the group of what comes first
-
-pub positive : (v : ℤ) → pos 0 ≤ℤ v → v ≡ pos (nat_abs v)
-positive (pos k) l = refl
-positive (negsuc k) l = absurd (omega (arith, ints, l))
 
 split_at : (m : ℤ) (k : ℕ) (steps : List Step) → (rest : List Entry) × (at_moment m steps ≡ at_moment m (take k steps) ++ rest)
 split_at m zero steps = (at_moment m steps, refl)

@@ -33,7 +33,7 @@ use Rattle.smil_past.specs.Past.{MarkedHistory, IsPresent, MayHear, logged_entry
 use Rattle.smil_cells.specs.CellsState.{CellsState, IsFront, IsHeard, NothingBefore, WhereTold, fresh, fresh_since, with_logged}
 use Rattle.smil_cells.specs.Standings.{IsSound, standing_of}
 use Rattle.smil_cells.proofs.Heard.{reached_heard}
-use Rattle.smil_cells.proofs.Heeded.{log_with, logged_one}
+use Rattle.smil_rounds.proofs.Heeded.{log_with, logged_one}
 use Rattle.smil_cells.proofs.Longer.{same_mark, with_entry}
 use Rattle.smil_cells.proofs.OnWay.{untouched, is_fresh}
 use Rattle.smil_cells.proofs.Grown.{AreShown, StayListed, StayBefore, AreFresh}

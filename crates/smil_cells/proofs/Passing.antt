@@ -1,6 +1,6 @@
 -- Cells at a later moment, before which nothing comes.
-use Rattle.std.proofs.Common.{◌≡◌, refl, sym, ◌∙◌, ap, subst, ℕ, suc, ◌+◌, ◌-◌, ◌≤◌, List, [], ◌∷◌, ◌++◌, Option, None, Some, ℤ, Bool, true, false, arith, length}
-use Rattle.std.specs.Prelude.{pos, negsuc, nat_abs, int_le, ◌≤ℤ◌, cond, ◌+ℤ◌, nat_lt, slice_get}
+use Rattle.std.proofs.Common.{◌≡◌, refl, sym, ◌∙◌, ap, subst, ℕ, suc, ◌+◌, ◌≤◌, List, [], ◌∷◌, ◌++◌, Option, None, Some, ℤ, Bool, true, false, arith, length}
+use Rattle.std.specs.Prelude.{pos, nat_abs, int_le, ◌≤ℤ◌, cond, ◌+ℤ◌, nat_lt, slice_get}
 use Rattle.std.proofs.lemmas.Int.{ints}
 use Rattle.smil_model.specs.declared.times.TheConstants.{HORIZON}
 use Rattle.smil_model.specs.declared.diary.LogEntry.{LogEntry}
@@ -19,6 +19,7 @@ use Rattle.smil_laws.specs.Same.{IsSame, TimePassesQuietly}
 use Rattle.smil_laws.specs.Courses.{ReachedIsPast}
 use Rattle.smil_laws.specs.Courses.{ReachesOverQuiet}
 use Rattle.smil_past.specs.Past.{MarkedHistory}
+use Rattle.smil_rounds.proofs.Moments.{over}
 use Rattle.smil_cells.specs.CellsState.{IsSettled, NothingBefore, first_at, history_of}
 use Rattle.smil_cells.specs.Standings.{IsSoundUnderMark, standing_of}
 use Rattle.std.proofs.lemmas.Bool.{and_from, and_parts}
@@ -29,10 +30,6 @@ use Rattle.smil_element.specs.Comings.{coming_stays}
 
 later : (a n : ℕ) (x : ℤ) → int_le x (pos a) ≡ true → int_le x (pos (a + n)) ≡ true
 later a n x q = grind (arith, ints)
-
-pub over : (a : ℕ) (v : ℤ) → pos a ≤ℤ v → (n : ℕ) × (v ≡ pos (a + n))
-over a (pos k) l = (k - a, ap pos (omega (arith, ints, l)))
-over a (negsuc k) l = absurd (omega (arith, ints, l))
 
 logged_later : (a n : ℕ) (log : List LogEntry) → is_logged_by (pos a) log ≡ true → is_logged_by (pos (a + n)) log ≡ true
 logged_later a n [] q = q

@@ -8,7 +8,7 @@ use Rattle.smil_laws.specs.Courses.{ReachedIsPast}
 use Rattle.smil_past.specs.Past as past_of
 use Rattle.smil_past.specs.Past.{MarkedHistory}
 use Rattle.smil_cells.specs.Standings.{IsSoundUnderMark, IsSound, WhereMarked, at_mark, marked_by}
-use Rattle.smil_cells.proofs.Grown.{positive}
+use Rattle.smil_rounds.proofs.Moments.{positive}
 use Rattle.smil_model.proofs.Orders.{le_from}
 
 module _ (is_marked is_current is_next : History → ℤ → Type 0) (has_mark : Bool) (past : MarkedHistory) (touched : List ℕ) where

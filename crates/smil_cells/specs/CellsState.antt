@@ -21,7 +21,7 @@ use Rattle.smil_laws.specs.Cut.{logged}
 use Rattle.smil_diary.specs.declared.fault.BookFault.{BookFault}
 use Rattle.smil_laws.specs.Same.{view_at}
 use Rattle.smil_laws.specs.Same.{IsSame}
-use Rattle.smil_past.specs.Past.{MarkedHistory, MayFollow, logged_entry, with_diary}
+use Rattle.smil_past.specs.Past.{logged_entry}
 
 -- a presentation under way: its document, log and moment, the diary so far,
 -- the refusal that is answered from now on, what a mark goes back to,
@@ -208,14 +208,3 @@ pub record IsHeard (old : CellsState) (entry : LogEntry) (new : CellsState) : Ty
   pub marked : new.marked ≡ old.marked
   pub more : StayTouched old new
   pub views : ViewsStay old new
-
--- each of the entries may follow those before it
-abbrev pub MayAppendAll : MarkedHistory → List Entry → Type 0
-MayAppendAll past [] = Unit {0}
-MayAppendAll past (entry ∷ entries) =
-    MayFollow past entry × MayAppendAll (with_diary past (past.diary ++ entry ∷ [])) entries
-
--- some of the entries were appended
-pub record IsPart (old : MarkedHistory) (entries : List Entry) (new : MarkedHistory) : Type 0 where
-  pub some : ℕ
-  pub new_is : new ≡ with_diary old (old.diary ++ take some entries)

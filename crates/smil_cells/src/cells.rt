@@ -1,14 +1,12 @@
 //! Cells over any table.
 
-ghost use Rattle.std.specs.Prelude.{◌≡◌, ◌⊎◌, ◌+◌, ◌-◌, ◌<◌, ◌≤◌, ◌≤ℤ◌, ◌+ℤ◌, ℤ, pos, nat_abs, List, [], ◌++◌, length, true, None, Some, is_some, OnOk, OnErr, IfOk, IfErr, IfSome, IfNone, option_map};
+ghost use Rattle.std.specs.Prelude.{◌≡◌, ◌⊎◌, ◌+◌, ◌-◌, ◌<◌, ◌≤◌, ◌≤ℤ◌, ◌+ℤ◌, ℤ, pos, nat_abs, List, [], length, true, None, Some, is_some, OnOk, OnErr, IfOk, IfErr, IfSome, IfNone, option_map};
 ghost use Rattle.smil_model.specs.declared.times.TheConstants.{HORIZON as the_horizon};
 ghost use Rattle.smil_model.specs.declared.limits.TheConstants.{LOG_ENTRIES as the_entries};
 ghost use Rattle.smil_model.specs.declared.diary.Entry.{Entry as AnyEntry};
 ghost use Rattle.smil_model.specs.document.Valid.{IsValid};
 ghost use Rattle.smil_model.specs.document.Document.{elements};
-ghost use Rattle.smil_model.specs.diary.Lawful.{has_element};
 ghost use Rattle.smil_model.specs.diary.Logs.{may_happen};
-ghost use Rattle.smil_model.specs.happening.Groups.{group as group_at};
 ghost use Rattle.smil_model.specs.happening.Keys.{DueChange as AnyDueChange, coming, first_coming};
 ghost use Rattle.smil_model.specs.happening.Resolution.{diary_of};
 ghost use Rattle.smil_model.specs.shown.Orders.{Presentation, course_of, as_of};
@@ -16,9 +14,8 @@ ghost use Rattle.smil_diary.specs.declared.fault.BookFault.{BookFault as AnyFaul
 ghost use Rattle.smil_diary.specs.declared.fault.BookFault.TheVariants as book_fault;
 ghost use Rattle.smil_stretch.specs.Clocks.{AreClocksOf};
 ghost use Rattle.smil_past.specs.Past as past_of;
-ghost use Rattle.smil_model.specs.declared.limits.TheConstants as limits;
-ghost use Rattle.smil_element.specs.Parts.{coming_meant, meant};
-ghost use Rattle.smil_cells.specs.CellsState.{GoesOn, IsFront, IsHeard, IsNext, IsPassed, IsRebuilt, IsRefusing, IsSettled, NothingBefore, first_at, IsPart, MayAppendAll, MayRebuild, CellsState, StayTouched, WhereTold, any_interval, fresh_since, history_of, interval_at, reached_since, with_logged};
+ghost use Rattle.smil_element.specs.Parts.{coming_meant};
+ghost use Rattle.smil_cells.specs.CellsState.{GoesOn, IsFront, IsHeard, IsNext, IsPassed, IsRebuilt, IsRefusing, IsSettled, NothingBefore, first_at, MayRebuild, CellsState, StayTouched, WhereTold, any_interval, fresh_since, history_of, interval_at, reached_since, with_logged};
 ghost use Rattle.smil_cells.specs.Standings.{MayBegin, at_mark, begun};
 ghost use Rattle.smil_laws.specs.Same.{IsSame};
 
@@ -27,7 +24,7 @@ use super::order::in_order;
 use super::table::{Since, Table};
 use super::touched::touch;
 use smil_diary::{Book, BookFault};
-use smil_element::{DueChange, Parts, group_of};
+use smil_element::DueChange;
 use smil_laws::courses::{
     ended_is_diary, reached_is_past, reaches_further, reaches_over_quiet, too_long_is_full,
 };
@@ -36,6 +33,7 @@ use smil_laws::near::resolved_is_near;
 use smil_laws::stays::{log_may_be_longer, other_views_stay, time_passes_quietly};
 use smil_model::{Doc, Duplicate, Entry, Interval, Log, LogEntry, Serials, Steps};
 use smil_past::{GraphedTree, Past};
+use smil_rounds::groups::{append_all, fill_group};
 use smil_stretch::Clocks;
 use smil_tree::Tree;
 use std::alloc::{AllocError, Global};
@@ -594,43 +592,4 @@ impl<T: Table> Cells<T> {
         self.fault = None;
         Ok(())
     }
-}
-
-// Fills a list with the group of what comes, at a moment.
-fn fill_group(
-    past: &Past,
-    moment: i64,
-    coming: DueChange,
-    entries: &mut Vec<Entry>,
-) -> Result<(), AllocError>
-    requires element { has_element past.now.document.nodes coming.key.serial ≡ true }
-    requires moment { past_of.IsPresent past.now moment }
-    ensures { OnOk result (entries.new.items
-        ≡ group_at (past_of.history_of past.now) moment coming.key.serial (meant coming.change)) }
-{
-    entries.clear();
-    let parts = Parts {
-        tree: past.tree(),
-        book: past.book(),
-        clocks: past.clocks(),
-        queues: past.queues(),
-        moment,
-    };
-    group_of(&parts, coming.key.serial, coming.change, entries)
-}
-
-// Appends entries, one after another, each of which may follow what has happened by then.
-fn append_all(past: &mut Past, entries: &[Entry]) -> Result<(), BookFault>
-    requires { MayAppendAll past.old entries.now }
-    ensures ok { OnOk result (past.new
-        ≡ past_of.with_diary past.old (past.old.diary ++ entries.now)) }
-    ensures err { OnErr result (IsPart past.old entries.now past.new) }
-    ensures full { IfErr result (λ fault. fault ≡ book_fault.DiaryFull
-        → (length past.new.diary ≡ limits.DIARY_ENTRIES)
-        × (limits.DIARY_ENTRIES < length past.old.diary + length entries.now)) }
-{
-    for entry in entries {
-        past.append(*entry)?;
-    }
-    Ok(())
 }

@@ -1,14 +1,11 @@
-//! Cells: a presentation under way, resolved moment by moment, over any table of current intervals;
-//! and the plain table.
+//! Cells: a presentation under way, resolved moment by moment, over any table of current intervals.
 #![tactic(auto)]
 
 pub mod cells;
 mod named;
 mod order;
-pub mod plain;
 pub mod table;
 mod touched;
 
 pub use cells::Cells;
-pub use plain::{PlainCells, PlainTable};
 pub use table::{Since, Table};

@@ -40,8 +40,8 @@ pub trait Table: Drop {
 
     ghost counts: { Bool };
 
-    /// The table of what has happened, at a moment, unless memory runs out; each element is
-    /// evaluated at most once.
+    /// The table of what has happened, at a moment, unless memory runs out; where steps are counted,
+    /// there are at most as many as elements.
     fn of<L: Ledger>(
         alloc: Global,
         past: &Past,

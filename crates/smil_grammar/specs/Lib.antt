@@ -5,6 +5,7 @@ pub mod Positions
 pub mod Clock
 pub mod Results
 pub mod Items
+pub mod Instants
 pub mod Lists
 pub mod Attributes
 pub mod Values

@@ -11,11 +11,12 @@ use Rattle.smil_model.specs.declared.order.Refusal.TheVariants.{NotACommand, Bad
 use Rattle.smil_model.specs.declared.limits.TheConstants.{NAME_BYTES}
 use Rattle.smil_model.specs.document.Words.{underscore, number_sign, is_key, is_of_attribute}
 use Rattle.smil_grammar.specs.declared.read.Read.{Read}
-use Rattle.smil_grammar.specs.declared.read.Read.TheVariants.{Blank, Load, Close, To}
+use Rattle.smil_grammar.specs.declared.read.Read.TheVariants.{Blank, Load, LoadAt, Prefer, Close, To}
 use Rattle.smil_grammar.specs.Texts.{◌>>=◌, is_white, cut_at, behind, quote}
 use Rattle.smil_grammar.specs.Positions.{Piece}
 use Rattle.smil_grammar.specs.Words.{word_len, name_len}
 use Rattle.smil_grammar.specs.Clock.{clock_within}
+use Rattle.smil_grammar.specs.Instants.{instant_of}
 use Rattle.smil_grammar.specs.Items.{count_of}
 use Rattle.smil_grammar.specs.Values.{id_of, short_number_of}
 use Rattle.smil_grammar.specs.Nodes.{is_space, is_no_space}
@@ -197,20 +198,60 @@ abbrev pub to : List ℕ → Result Order Refusal → Result Read Refusal
 to name (Ok order) = Ok (To name order)
 to name (Err refusal) = Err refusal
 
--- `load` or `close` and a name
-abbrev pub named : (List ℕ → Read) → Piece → Option Read
-named read line =
+-- `close`: a name
+abbrev pub close_line : Piece → Option Read
+close_line line =
     let cut : Piece × Piece = first_of line in
-    if is_presentation_name cut.0.text then at_end cut.1 (read cut.0.text) else None
+    if is_presentation_name cut.0.text then at_end cut.1 (Close cut.0.text) else None
+
+-- the instant of moment 0, behind `at`
+abbrev pub start_line : List ℕ → Piece → Option Read
+start_line name line =
+    let cut : Piece × Piece = first_of line in
+    instant_of cut.0.text >>= λ start. at_end cut.1 (LoadAt name start)
+
+-- what stands behind the name of a load: nothing, or `at` and an instant
+abbrev pub load_behind : List ℕ → Piece → Option Read
+load_behind name line =
+    let cut : Piece × Piece = first_of line in
+    if is_ended line then Some (Load name)
+    else (if bytes_eq cut.0.text (codes "at") then start_line name cut.1 else None)
+
+-- `load`: a name, and the instant of moment 0 where one is given
+abbrev pub load_line : Piece → Option Read
+load_line line =
+    let cut : Piece × Piece = first_of line in
+    if is_presentation_name cut.0.text then load_behind cut.0.text cut.1 else None
+
+-- what a value can be preferred for
+abbrev pub preference_words : List (List ℕ)
+preference_words =
+    codes "bitrate" ∷ codes "captions" ∷ codes "audiodesc" ∷ codes "language" ∷ codes "screen"
+    ∷ codes "depth" ∷ []
+
+-- whether a line prefers a value: its second word says for what
+abbrev pub is_preference : List ℕ → List ℕ → Bool
+is_preference first second =
+    bytes_eq first (codes "prefer") && list_any (bytes_eq second) preference_words
+
+-- the value that is preferred: one word, which may have no reading
+abbrev pub prefer_line : List ℕ → Piece → Option Read
+prefer_line word line =
+    let cut : Piece × Piece = first_of line in
+    if length cut.0.text == 0 then None else at_end cut.1 (Prefer word cut.0.text)
+
+-- a line behind its first word, which is a presentation's name unless the line prefers a value
+abbrev pub behind_name : List ℕ → Piece × Piece → Result Read Refusal
+behind_name name verb =
+    if is_preference name verb.0.text then or_refused (prefer_line verb.0.text verb.1)
+    else to name (finish (order_line verb.0.text verb.1))
 
 -- a line by its first word
 abbrev pub command : Piece × Piece → Result Read Refusal
 command cut =
-    if bytes_eq cut.0.text (codes "load") then or_refused (named Load cut.1)
-    else (if bytes_eq cut.0.text (codes "close") then or_refused (named Close cut.1)
-    else (if is_presentation_name cut.0.text
-    then (let verb : Piece × Piece = first_of cut.1 in
-    to cut.0.text (finish (order_line verb.0.text verb.1)))
+    if bytes_eq cut.0.text (codes "load") then or_refused (load_line cut.1)
+    else (if bytes_eq cut.0.text (codes "close") then or_refused (close_line cut.1)
+    else (if is_presentation_name cut.0.text then behind_name cut.0.text (first_of cut.1)
     else Err NotACommand))
 
 -- a line that has no answer: white space alone, or one whose first byte is `#`

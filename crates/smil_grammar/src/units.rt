@@ -9,6 +9,9 @@ pub const MINUTE: u64 = 60_000;
 /// The milliseconds of an hour.
 pub const HOUR: u64 = 3_600_000;
 
+/// The milliseconds of a day.
+pub const DAY: u64 = 86_400_000;
+
 /// The billionths of one: fractions are counted in billionths.
 pub const BILLION: u64 = 1_000_000_000;
 

@@ -88,7 +88,7 @@ then c (suc k) j q = ap (λ n. after_steps c n q) there ∙ by_next (next_step c
     by_next (Some r) e later = later r
 
 -- one of two numbers of steps is the other and some more
-ordered : (a b : ℕ) → ((j : ℕ) × (a + j ≡ b)) ⊎ ((j : ℕ) × (b + j ≡ a))
+pub ordered : (a b : ℕ) → ((j : ℕ) × (a + j ≡ b)) ⊎ ((j : ℕ) × (b + j ≡ a))
 ordered zero b = inl (b, omega arith)
 ordered (suc a) zero = inr (suc a, omega arith)
 ordered (suc a) (suc b) = by_case (ordered a b)
@@ -99,7 +99,7 @@ ordered (suc a) (suc b) = by_case (ordered a b)
 
 module _ (c : Course) (p : Progress) (most steps : ℕ) (enough : most + c.last < steps) where
   -- what has ended within the bound is where all steps lead
-  ended_there : (k : ℕ) → after_steps c k outset ≡ p → next_step c p ≡ None → length p.diary ≤ most → after_steps c steps outset ≡ p
+  pub ended_there : (k : ℕ) → after_steps c k outset ≡ p → next_step c p ≡ None → length p.diary ≤ most → after_steps c steps outset ≡ p
   ended_there k e ended few = by_order (ordered k steps)
     where
       by_far : (j : ℕ) → steps + j ≡ k → (next_step c (after_steps c steps outset) ≡ None) ⊎ (steps + extent outset ≤ extent (after_steps c steps outset)) → after_steps c steps outset ≡ p
@@ -118,7 +118,7 @@ module _ (c : Course) (p : Progress) (most steps : ℕ) (enough : most + c.last 
       by_order (inr (j, there)) = by_far j there (comes c steps outset).far
 
   -- and where it has come to more entries, all steps lead to more
-  too_long_there : (k : ℕ) → after_steps c k outset ≡ p → most < length p.diary → most < length (after_steps c steps outset).diary
+  pub too_long_there : (k : ℕ) → after_steps c k outset ≡ p → most < length p.diary → most < length (after_steps c steps outset).diary
   too_long_there k e many = by_order (ordered k steps)
     where
       same_length : length (after_steps c k outset).diary ≡ length p.diary

@@ -68,9 +68,16 @@ tens_at (suc k) (b ∷ digits) le =
     let power : 10 ^ suc k ≡ 10 ^ k * 10 = pow-suc 10 k in
     omega arith
 
+-- digits write a number below this power of ten
+pub power_above : (k : ℕ) (digits : List ℕ) → length digits ≤ k → IfSome (number_of digits) (λ m. m < 10 ^ k)
+power_above k [] le = tt
+power_above k (b ∷ digits) le = IfSome_then (number_after 0 (b ∷ digits)) (number_below 0 (b ∷ digits)) (λ value h. omega (arith, tens_at k (b ∷ digits) le))
+
 pub nine_below : (digits : List ℕ) → length digits ≤ 9 → IfSome (number_of digits) (λ m. m < 1_000_000_000)
-nine_below [] le = tt
-nine_below (b ∷ digits) le = IfSome_then (number_after 0 (b ∷ digits)) (number_below 0 (b ∷ digits)) (λ value h. omega (arith, tens_at 9 (b ∷ digits) le))
+nine_below digits le = power_above 9 digits le
+
+pub digits_below : (digits : List ℕ) (count n : ℕ) → length digits ≡ count → Some n ≡ number_of digits → n < 10 ^ count
+digits_below digits count n len e = subst (λ (x : Option ℕ). IfSome x (λ m. m < 10 ^ count)) (sym e) (power_above count digits (omega arith))
 
 -- a cap that isn't met changes nothing
 uncapped : (x : Option ℕ) → IfSome x (λ m. m < 1_000_000_000) → option_map capped x ≡ x

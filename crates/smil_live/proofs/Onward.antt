@@ -15,7 +15,7 @@ use Rattle.smil_model.specs.shown.Answers.{change_text}
 use Rattle.smil_model.specs.shown.Orders.{Presentation, as_of, course_of, changes_between, changes_through}
 use Rattle.smil_cells.specs.CellsState.{NothingBefore, CellsState}
 use Rattle.smil_cells.proofs.OnWay.{sooner}
-use Rattle.smil_cells.proofs.Passing.{over}
+use Rattle.smil_rounds.proofs.Moments.{over}
 use Rattle.smil_shown.specs.ShownViews.{IsShown}
 use Rattle.smil_live.specs.Moves.{IsFirstDue, IsShownAt, IsTooFull, text_of}
 use Rattle.smil_shown.specs.ViewTable.{ViewLists}

@@ -36,7 +36,7 @@ use Rattle.smil_model.proofs.Orders.{le_from}
 use Rattle.smil_laws.proofs.Aside.{find_each}
 use Rattle.smil_tree.proofs.Spans.{all_known}
 use Rattle.smil_cells.specs.CellsState.{CellsState, with_logged}
-use Rattle.smil_cells.proofs.Heeded.{first_is_log}
+use Rattle.smil_rounds.proofs.Heeded.{first_is_log}
 use Rattle.smil_live.specs.Moves.{IsHeardBy, IsNotHeard, IsReplayed, IsTooFull, entry_of, sought_of, text_of}
 use Rattle.smil_live.specs.Telling.{element_named}
 use Rattle.smil_shown.proofs.Apart.{found_each}

@@ -24,7 +24,7 @@ use Rattle.smil_laws.specs.Cut.{is_logged, logged}
 use Rattle.smil_laws.proofs.Back.{reaches_back}
 use Rattle.smil_laws.proofs.Cutting.{reaches_at_last}
 use Rattle.smil_laws.proofs.Further.{is_past}
-use Rattle.smil_cells.proofs.Grown.{is_late}
+use Rattle.smil_rounds.proofs.Moments.{is_late}
 use Rattle.smil_shown.proofs.PresentMoments.{from_zero}
 use Rattle.smil_shown.proofs.SettledDiaries.{comes_to}
 use Rattle.smil_live.proofs.Logs.{log_parts, no_later}

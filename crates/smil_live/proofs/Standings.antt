@@ -4,7 +4,7 @@ use Rattle.std.specs.Prelude.{pos, nat_abs, ◌≤ℤ◌, ◌+ℤ◌}
 use Rattle.smil_model.specs.declared.times.TheConstants.{HORIZON}
 use Rattle.smil_model.specs.shown.Orders.{IsState, Presentation, course_of, views_of, as_of}
 use Rattle.smil_cells.specs.CellsState.{IsSettled, NothingBefore, CellsState}
-use Rattle.smil_cells.proofs.Passing.{over}
+use Rattle.smil_rounds.proofs.Moments.{over}
 use Rattle.smil_shown.specs.ShownViews.{IsShown, views_at}
 use Rattle.smil_live.specs.Moves.{MayMove, made}
 use Rattle.smil_shown.specs.ViewTable.{ViewLists}

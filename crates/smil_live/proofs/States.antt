@@ -9,7 +9,7 @@ use Rattle.smil_model.specs.declared.times.TheConstants.{HORIZON}
 use Rattle.smil_model.specs.diary.Logs.{is_logged_by, may_happen, moments_rise}
 use Rattle.smil_model.specs.shown.Orders.{IsState, Presentation, as_of}
 use Rattle.smil_model.proofs.Orders.{is_le}
-use Rattle.smil_cells.proofs.Heeded.{all_one}
+use Rattle.smil_rounds.proofs.Heeded.{all_one}
 use Rattle.smil_cells.proofs.Hearing.{from_first}
 use Rattle.smil_live.proofs.Logs.{log_parts}
 use Rattle.smil_live.proofs.Quiet.{logged_later}

@@ -158,7 +158,7 @@ pub enum Refusal {
     NotYet,
     /// A node line gives a serial that is not below the next serial, or that a line before it has.
     BadSerial,
-    /// Kept for wall clock items, which are not read so far: nothing is refused so.
+    /// A line of a load with an instant has a wall clock item, and the root has no id or has a begin.
     NoAnchor,
 }
 

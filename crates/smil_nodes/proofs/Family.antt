@@ -12,8 +12,8 @@ use Rattle.smil_model.specs.document.Closure.{has}
 use Rattle.smil_laws.proofs.Members.{differ_all, differ_kept}
 use Rattle.smil_laws.proofs.Reached.{own_is_all}
 use Rattle.smil_graph.specs.Graph.{IsGraphOrder, follows_unlooped}
-use Rattle.smil_cells.proofs.Paired.{apart_at, place_of_member, there_at}
-use Rattle.smil_cells.proofs.Taking.{elements_differ}
+use Rattle.smil_rounds.proofs.Paired.{apart_at, place_of_member, there_at}
+use Rattle.smil_rounds.proofs.Taking.{elements_differ}
 use Rattle.smil_nodes.specs.Work.{IsBelow}
 use Rattle.smil_element.proofs.Known.{passes, serial_is}
 

@@ -15,11 +15,11 @@ use Rattle.smil_model.specs.interval.Current.{current_interval}
 use Rattle.smil_model.specs.reach.Bounds.{reaches}
 use Rattle.smil_laws.specs.Edited.{IsOrdered}
 use Rattle.smil_graph.specs.Graph.{IsGraphOrder}
-use Rattle.smil_cells.specs.declared.plain.current_rows.CurrentRow.{CurrentRow}
-use Rattle.smil_cells.specs.Plain.{AreCurrent, interval_in}
-use Rattle.smil_cells.specs.Round.{AreRowsEvaluated, StayUnchanged}
+use Rattle.smil_rounds.specs.declared.current_rows.CurrentRow.{CurrentRow}
+use Rattle.smil_rounds.specs.Current.{AreCurrent, interval_in}
+use Rattle.smil_rounds.specs.Round.{AreRowsEvaluated, StayUnchanged}
 use Rattle.smil_cells.specs.CellsState.{any_interval, fresh, is_same_interval}
-use Rattle.smil_cells.proofs.Current.{all_current}
+use Rattle.smil_rounds.proofs.Current.{all_current}
 use Rattle.smil_cells.proofs.OnWay.{same_self}
 use Rattle.smil_nodes.specs.Work.{AreDueOnce, AreSettled, IsCounted, IsDue}
 use Rattle.smil_nodes.proofs.Counting.{passing_within, within_reaches}

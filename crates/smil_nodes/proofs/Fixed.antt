@@ -11,17 +11,17 @@ use Rattle.smil_laws.specs.Edited.{IsOrdered}
 use Rattle.smil_laws.specs.Locality.{ParentsBefore}
 use Rattle.smil_laws.proofs.Rounds.{after_rounds, after_rounds-suc}
 use Rattle.smil_laws.proofs.Settled.{come_to_rest}
-use Rattle.smil_cells.specs.declared.plain.current_rows.CurrentRow.{CurrentRow}
-use Rattle.smil_cells.specs.Plain as plain
-use Rattle.smil_cells.specs.Plain.{AreCurrent, interval_in}
-use Rattle.smil_cells.specs.Round.{IsRowOf}
-use Rattle.smil_cells.proofs.Rows.{IsFirst}
-use Rattle.smil_cells.proofs.Paired.{first_at, interval_at, there_at}
-use Rattle.smil_cells.proofs.Current as current
-use Rattle.smil_cells.proofs.Taking.{elements_differ}
+use Rattle.smil_rounds.specs.declared.current_rows.CurrentRow.{CurrentRow}
+use Rattle.smil_rounds.specs.Current as plain
+use Rattle.smil_rounds.specs.Current.{AreCurrent, interval_in}
+use Rattle.smil_rounds.specs.Round.{IsRowOf}
+use Rattle.smil_rounds.proofs.Rows.{IsFirst}
+use Rattle.smil_rounds.proofs.Paired.{first_at, interval_at, there_at}
+use Rattle.smil_rounds.proofs.Current as current
+use Rattle.smil_rounds.proofs.Taking.{elements_differ}
 use Rattle.std.specs.FinSet as set
 use Rattle.smil_model.specs.happening.Keys.{keys}
-use Rattle.smil_cells.proofs.First.{comings_at}
+use Rattle.smil_rounds.proofs.First.{comings_at}
 
 -- ---- current rows
 

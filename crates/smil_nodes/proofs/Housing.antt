@@ -14,10 +14,10 @@ use Rattle.smil_model.specs.document.Closure.{has}
 use Rattle.smil_laws.proofs.Rounds.{find-serial}
 use Rattle.smil_past.proofs.References.{stands}
 use Rattle.smil_element.proofs.Known.{IsChild, child_at, known_node, passes}
-use Rattle.smil_cells.specs.declared.plain.current_rows.CurrentRow.{CurrentRow}
-use Rattle.smil_cells.specs.Round.{AreOfElements}
-use Rattle.smil_cells.proofs.Paired.{element_at, first_at, serials_in, there_at}
-use Rattle.smil_cells.proofs.Taking.{IsFound, elements_differ}
+use Rattle.smil_rounds.specs.declared.current_rows.CurrentRow.{CurrentRow}
+use Rattle.smil_rounds.specs.Round.{AreOfElements}
+use Rattle.smil_rounds.proofs.Paired.{element_at, first_at, serials_in, there_at}
+use Rattle.smil_rounds.proofs.Taking.{IsFound, elements_differ}
 use Rattle.smil_nodes.specs.declared.endings.Home.{Home}
 use Rattle.smil_endsync.specs.Ends.{set_ends}
 use Rattle.smil_element.specs.declared.endings.Ending.{Ending}

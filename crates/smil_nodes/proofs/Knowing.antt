@@ -19,11 +19,11 @@ use Rattle.smil_graph.specs.Graph.{IsGraphOrder}
 use Rattle.smil_element.specs.declared.endings.Ending.{Ending}
 use Rattle.smil_element.specs.Endings.{ending_by}
 use Rattle.smil_past.specs.Past.{MarkedHistory, front, history_of}
-use Rattle.smil_cells.specs.declared.plain.current_rows.CurrentRow.{CurrentRow}
-use Rattle.smil_cells.specs.Plain.{interval_in}
-use Rattle.smil_cells.specs.Round.{AreOfElements}
-use Rattle.smil_cells.proofs.Paired.{apart_at, there_at}
-use Rattle.smil_cells.proofs.Taking.{elements_differ}
+use Rattle.smil_rounds.specs.declared.current_rows.CurrentRow.{CurrentRow}
+use Rattle.smil_rounds.specs.Current.{interval_in}
+use Rattle.smil_rounds.specs.Round.{AreOfElements}
+use Rattle.smil_rounds.proofs.Paired.{apart_at, there_at}
+use Rattle.smil_rounds.proofs.Taking.{elements_differ}
 use Rattle.smil_nodes.specs.declared.endings.Home.{Home}
 use Rattle.smil_nodes.specs.Agenda.{IsLeastTaken}
 use Rattle.smil_nodes.specs.Endings.{KeptEnds, AreHomes, AreKnown, HasHome, IsEnded, KnowsEnds, anyone, home_at, named_end, named_ends, names_of, nobody, put_among, put_ending, put_home}

@@ -1,7 +1,7 @@
 -- What `back` gives stays where a table changes.
 use Rattle.std.proofs.Common.{◌≡◌, refl, sym, ◌∙◌, subst, List, Bool, true, false, ℤ}
 use Rattle.smil_model.specs.diary.Diary.{History}
-use Rattle.smil_cells.specs.declared.plain.current_rows.CurrentRow.{CurrentRow}
+use Rattle.smil_rounds.specs.declared.current_rows.CurrentRow.{CurrentRow}
 use Rattle.smil_nodes.specs.declared.live.LiveTable.{LiveTable}
 use Rattle.smil_nodes.specs.Endings.{KeptEnds}
 use Rattle.smil_nodes.specs.Marked.{GoesBack, IsMarked, IsUpToDate}

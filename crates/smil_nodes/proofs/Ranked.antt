@@ -11,7 +11,7 @@ use Rattle.smil_model.specs.declared.document.Node.{Node}
 use Rattle.smil_model.specs.document.Document.{elements, node_at, serials}
 use Rattle.smil_laws.proofs.Rounds.{find-serial}
 use Rattle.smil_graph.specs.Graph.{IsGraphOrder}
-use Rattle.smil_cells.proofs.Current.{ordered_element}
+use Rattle.smil_rounds.proofs.Current.{ordered_element}
 use Rattle.smil_instances.proofs.Targets.{some_of}
 
 -- ---- lists of different numbers

@@ -14,12 +14,12 @@ use Rattle.smil_element.specs.declared.happening.change.DueChange.{DueChange}
 use Rattle.smil_element.specs.Parts.{coming_meant}
 use Rattle.smil_element.specs.Element.{both}
 use Rattle.smil_element.specs.Comings.{HaveDueChanges}
-use Rattle.smil_cells.specs.declared.plain.current_rows.CurrentRow.{CurrentRow}
-use Rattle.smil_cells.specs.Rows.{IsChosen, empty_row}
-use Rattle.smil_cells.proofs.First.{first_by_key, none_first}
-use Rattle.smil_cells.proofs.Keyed.{key_of}
-use Rattle.smil_cells.proofs.Taking.{elements_few}
-use Rattle.smil_cells.specs.Plain.{AreCurrent}
+use Rattle.smil_rounds.specs.declared.current_rows.CurrentRow.{CurrentRow}
+use Rattle.smil_rounds.specs.Rows.{IsChosen, empty_row}
+use Rattle.smil_rounds.proofs.First.{first_by_key, none_first}
+use Rattle.smil_rounds.proofs.Keyed.{key_of}
+use Rattle.smil_rounds.proofs.Taking.{elements_few}
+use Rattle.smil_rounds.specs.Current.{AreCurrent}
 use Rattle.smil_nodes.specs.Slots.{keys_in}
 use Rattle.smil_nodes.specs.Schedule.{slot_of, slots_of}
 use Rattle.smil_nodes.proofs.Fixed.{plain_current}

@@ -11,11 +11,11 @@ use Rattle.smil_laws.specs.Touched.{GivesSame, in_reaches, is_touched_by}
 use Rattle.smil_laws.proofs.TouchedStay.{leaves_untouched}
 use Rattle.smil_graph.specs.Graph.{IsGraphOrder}
 use Rattle.smil_past.specs.Past.{MarkedHistory, front, history_of}
-use Rattle.smil_cells.specs.declared.plain.current_rows.CurrentRow.{CurrentRow}
-use Rattle.smil_cells.specs.Plain.{AreCurrent, interval_in}
-use Rattle.smil_cells.specs.Round.{IsRowOf}
-use Rattle.smil_cells.proofs.Paired.{first_at, interval_at, there_at}
-use Rattle.smil_cells.proofs.Taking.{elements_differ}
+use Rattle.smil_rounds.specs.declared.current_rows.CurrentRow.{CurrentRow}
+use Rattle.smil_rounds.specs.Current.{AreCurrent, interval_in}
+use Rattle.smil_rounds.specs.Round.{IsRowOf}
+use Rattle.smil_rounds.proofs.Paired.{first_at, interval_at, there_at}
+use Rattle.smil_rounds.proofs.Taking.{elements_differ}
 use Rattle.smil_nodes.specs.Noted.{is_noted_by}
 use Rattle.smil_nodes.specs.Work.{AreSettled}
 use Rattle.smil_nodes.proofs.Fixed.{current_elements, row_of_current}

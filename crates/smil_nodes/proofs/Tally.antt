@@ -11,8 +11,8 @@ use Rattle.smil_model.specs.reach.Reach.{reads}
 use Rattle.smil_laws.specs.Touched.{in_reaches}
 use Rattle.smil_laws.proofs.TouchedReached.{reaches_hold}
 use Rattle.smil_graph.specs.Graph.{IsGraphOrder}
-use Rattle.smil_cells.specs.declared.plain.current_rows.CurrentRow.{CurrentRow}
-use Rattle.smil_cells.specs.Plain.{interval_in}
+use Rattle.smil_rounds.specs.declared.current_rows.CurrentRow.{CurrentRow}
+use Rattle.smil_rounds.specs.Current.{interval_in}
 use Rattle.smil_nodes.specs.Noted.{is_noted_by}
 use Rattle.smil_nodes.specs.Work.{HasSame, IsBelow, IsCounted, IsDue, is_later_reader}
 use Rattle.smil_nodes.specs.Agenda.{IsLeastTaken}

@@ -4,10 +4,10 @@ use Rattle.std.specs.Prelude.{◌==◌, ◌⊎◌, nat_eq, slice_get}
 use Rattle.std.specs.List.{position}
 use Rattle.std.proofs.lemmas.Bool.{eqb-true, eqb-false, or_cases}
 use Rattle.std.proofs.lemmas.List.{set_comm}
-use Rattle.smil_cells.specs.declared.plain.current_rows.CurrentRow.{CurrentRow}
-use Rattle.smil_cells.proofs.Rows.{IsFirst, first_of_position, places_same, set_serials}
-use Rattle.smil_cells.proofs.Paired.{serials_in}
-use Rattle.smil_cells.proofs.Taking.{placed}
+use Rattle.smil_rounds.specs.declared.current_rows.CurrentRow.{CurrentRow}
+use Rattle.smil_rounds.proofs.Rows.{IsFirst, first_of_position, places_same, set_serials}
+use Rattle.smil_rounds.proofs.Paired.{serials_in}
+use Rattle.smil_rounds.proofs.Taking.{placed}
 use Rattle.smil_element.specs.declared.endings.Ending.{Ending}
 use Rattle.smil_nodes.specs.declared.undo.Note.{Note}
 use Rattle.smil_nodes.specs.Endings.{KeptEnds, ending_in, put_ending}

@@ -10,13 +10,13 @@ use Rattle.smil_model.specs.diary.Diary.{History}
 use Rattle.smil_laws.proofs.Locality.{AgreeFor}
 use Rattle.smil_laws.proofs.Members.{Differ}
 use Rattle.smil_graph.specs.Graph.{IsGraphOrder}
-use Rattle.smil_cells.specs.declared.plain.current_rows.CurrentRow.{CurrentRow}
-use Rattle.smil_cells.specs.Plain.{interval_in}
-use Rattle.smil_cells.specs.Round.{AreOfElements, IsRowOf, IsRowEvaluated}
-use Rattle.smil_cells.proofs.Rows.{IsFirst, set_serials, set_others}
-use Rattle.smil_cells.proofs.Paired.{serials_in, there_at, apart_at, first_at, set_at, set_elsewhere}
-use Rattle.smil_cells.proofs.Agreeing.{row_stays, agree_by_order}
-use Rattle.smil_cells.proofs.Taking.{elements_differ}
+use Rattle.smil_rounds.specs.declared.current_rows.CurrentRow.{CurrentRow}
+use Rattle.smil_rounds.specs.Current.{interval_in}
+use Rattle.smil_rounds.specs.Round.{AreOfElements, IsRowOf, IsRowEvaluated}
+use Rattle.smil_rounds.proofs.Rows.{IsFirst, set_serials, set_others}
+use Rattle.smil_rounds.proofs.Paired.{serials_in, there_at, apart_at, first_at, set_at, set_elsewhere}
+use Rattle.smil_rounds.proofs.Agreeing.{row_stays, agree_by_order}
+use Rattle.smil_rounds.proofs.Taking.{elements_differ}
 use Rattle.smil_nodes.specs.Work.{AreSettled, is_later_reader}
 use Rattle.smil_nodes.proofs.Apart.{agree_apart, agree_all, not_following}
 

@@ -11,9 +11,9 @@ use Rattle.smil_model.specs.interval.Current.{child_end, is_named_child}
 use Rattle.smil_endsync.specs.Ends.{set_ends}
 use Rattle.smil_element.specs.declared.endings.Ending.{Ending}
 use Rattle.smil_element.specs.Endings.{ending_by}
-use Rattle.smil_cells.specs.declared.plain.current_rows.CurrentRow.{CurrentRow}
-use Rattle.smil_cells.specs.Plain.{interval_in}
-use Rattle.smil_cells.specs.Round.{AreOfElements}
+use Rattle.smil_rounds.specs.declared.current_rows.CurrentRow.{CurrentRow}
+use Rattle.smil_rounds.specs.Current.{interval_in}
+use Rattle.smil_rounds.specs.Round.{AreOfElements}
 use Rattle.smil_nodes.specs.declared.endings.Home.{Home}
 
 -- of the elements in document order where the ending of each stands,

@@ -2,8 +2,8 @@
 use Rattle.std.specs.Prelude.{◌≡◌, ℤ, List, Bool, true, false}
 use Rattle.smil_model.specs.diary.Diary.{History}
 use Rattle.smil_laws.specs.Same.{IsSame}
-use Rattle.smil_cells.specs.declared.plain.current_rows.CurrentRow.{CurrentRow}
-use Rattle.smil_cells.specs.Plain.{AreCurrent, interval_in, stay_current}
+use Rattle.smil_rounds.specs.declared.current_rows.CurrentRow.{CurrentRow}
+use Rattle.smil_rounds.specs.Current.{AreCurrent, interval_in, stay_current}
 use Rattle.smil_nodes.specs.declared.live.LiveTable.{LiveTable}
 use Rattle.smil_nodes.specs.declared.undo.Note.{Note}
 use Rattle.smil_nodes.specs.Endings.{KeptEnds, AreKnown, anyone, stay_known}

@@ -7,9 +7,9 @@ use Rattle.smil_model.specs.diary.Diary.{History}
 use Rattle.smil_model.specs.happening.Keys.{coming, first_coming}
 use Rattle.smil_element.specs.declared.happening.change.DueChange.{DueChange}
 use Rattle.smil_element.specs.Parts.{coming_meant}
-use Rattle.smil_cells.specs.declared.plain.current_rows.CurrentRow.{CurrentRow}
-use Rattle.smil_cells.specs.Plain.{AreCurrent}
-use Rattle.smil_cells.specs.Rows.{AreNear}
+use Rattle.smil_rounds.specs.declared.current_rows.CurrentRow.{CurrentRow}
+use Rattle.smil_rounds.specs.Current.{AreCurrent}
+use Rattle.smil_rounds.specs.Rows.{AreNear}
 
 -- the key of what comes
 abbrev pub slot_of : Option DueChange → Option Key

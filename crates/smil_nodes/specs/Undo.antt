@@ -4,7 +4,7 @@ use Rattle.std.specs.List.{AllByRecursion, list_any, position}
 use Rattle.smil_model.specs.document.Closure.{has}
 use Rattle.smil_laws.specs.Near.{IsIntervalNear}
 use Rattle.smil_element.specs.declared.endings.Ending.{Ending}
-use Rattle.smil_cells.specs.declared.plain.current_rows.CurrentRow.{CurrentRow}
+use Rattle.smil_rounds.specs.declared.current_rows.CurrentRow.{CurrentRow}
 use Rattle.smil_nodes.specs.declared.undo.Note.{Note}
 use Rattle.smil_nodes.specs.Endings.{KeptEnds, put_ending}
 

@@ -11,9 +11,9 @@ use Rattle.smil_model.specs.diary.Diary.{History}
 use Rattle.smil_model.specs.reach.Reach.{is_option, reads}
 use Rattle.smil_laws.specs.Touched.{in_reaches}
 use Rattle.smil_graph.specs.Graph.{OrderedNodes, readers_of}
-use Rattle.smil_cells.specs.declared.plain.current_rows.CurrentRow.{CurrentRow}
-use Rattle.smil_cells.specs.Plain.{interval_in}
-use Rattle.smil_cells.specs.Round.{AreOfElements, IsRowOf}
+use Rattle.smil_rounds.specs.declared.current_rows.CurrentRow.{CurrentRow}
+use Rattle.smil_rounds.specs.Current.{interval_in}
+use Rattle.smil_rounds.specs.Round.{AreOfElements, IsRowOf}
 use Rattle.smil_nodes.specs.Noted.{is_noted_by}
 
 -- whether the element has this rank, and it is above another
@@ -73,7 +73,7 @@ IsDue nodes log entries before after s =
     (is_noted_by nodes log entries s ≡ true)
     ⊎ ((x : ℕ) × (reads nodes x s ≡ true) × (after x ≡ before x → ⊥))
 
--- so many evaluations are made: of elements that are due, and of none twice
+-- as many evaluations are made as some elements that are due, of which none counts twice
 pub record AreDueOnce (nodes : List Node) (log : List LogEntry) (entries : List Entry)
     (before after : ℕ → Option Interval) (evaluations : ℕ) : Type 0 where
   pub evaluated : List ℕ
@@ -83,8 +83,8 @@ pub record AreDueOnce (nodes : List Node) (log : List LogEntry) (entries : List 
       (s : ℕ) → has evaluated s ≡ true → is_some (node_at (elements nodes) s) ≡ true
   pub due : (s : ℕ) → has evaluated s ≡ true → IsDue nodes log entries before after s
 
--- each evaluation is a step, and no element is evaluated twice; those that were, and those that
--- are listed, are due and in the reaches of entries; the listed ranks are above those of the former
+-- each step is of another element that was taken; those that were, and those that are listed,
+-- are due and in the reaches of entries; the listed ranks are above those of the former
 pub record IsCounted (nodes : List Node) (log : List LogEntry) (entries : List Entry)
     (order : List ℕ) (listed : ℕ → Bool) (before rows : List CurrentRow) (start steps : ℕ)
     : Type 0 where

@@ -7,7 +7,7 @@ ghost use Rattle.smil_model.specs.document.Closure.{has};
 ghost use Rattle.smil_model.specs.document.Defaults.{endsync_of};
 ghost use Rattle.smil_model.specs.diary.Lawful.{has_element};
 ghost use Rattle.smil_model.specs.interval.Durations.{container_duration};
-ghost use Rattle.smil_cells.specs.Round.{AreOfElements};
+ghost use Rattle.smil_rounds.specs.Round.{AreOfElements};
 ghost use Rattle.smil_nodes.specs.Endings.{AreHomes, HasHome, ending_in, home_at, named_ends, put_ending};
 
 use super::schedule::Schedule;

@@ -11,10 +11,10 @@ ghost use Rattle.smil_model.specs.interval.Current.{current_interval};
 ghost use Rattle.smil_model.specs.reach.Bounds.{reaches};
 ghost use Rattle.smil_laws.specs.Near.{IsIntervalNear};
 ghost use Rattle.smil_past.specs.Past.{IsPresent, front, history_of};
-ghost use Rattle.smil_cells.specs.declared.plain.current_rows.CurrentRow.{CurrentRow as AnyRow};
+ghost use Rattle.smil_rounds.specs.declared.current_rows.CurrentRow.{CurrentRow as AnyRow};
 ghost use Rattle.smil_cells.specs.CellsState.{fresh};
-ghost use Rattle.smil_cells.specs.Round.{AreOfElements, IsRowEvaluated};
-ghost use Rattle.smil_cells.specs.Plain.{interval_in};
+ghost use Rattle.smil_rounds.specs.Round.{AreOfElements, IsRowEvaluated};
+ghost use Rattle.smil_rounds.specs.Current.{interval_in};
 ghost use Rattle.smil_nodes.specs.Endings.{AreKnown, IsEnded, KnowsEnds, nobody, put_ending};
 ghost use Rattle.smil_nodes.specs.Marked.{GoesBack, IsUpToDate};
 ghost use Rattle.smil_nodes.specs.Undo.{ending_back, row_back};
@@ -27,21 +27,21 @@ use super::schedule::Schedule;
 use super::sources::Sources;
 use super::touched::{Network, note_touched};
 use super::undo::{Note, Undo};
-use smil_cells::plain::current_rows::{CurrentRow, IndexedElement, row_of};
 use smil_cells::{Cells, Since, Table};
 use smil_element::{DueChange, Ending, Intervals, Present, Room, ending_of};
 use smil_interval::is_same_interval;
 use smil_model::{Duplicate, Interval, Serials, Steps};
 use smil_past::Past;
+use smil_rounds::current_rows::{CurrentRow, IndexedElement, row_of};
 use std::alloc::{AllocError, Global};
 use std::sync::ledger::Ledger;
 
 /// Cells over the live table.
 pub type LiveCells = Cells<LiveTable>;
 
-/// A table that evaluates, after a happening, only the elements that it touches, after the press of
-/// a key those in the key's reach, and those that read an element whose interval changed; each at
-/// most once.
+/// A table that evaluates, after a happening, the elements that it touches, after the press of a key
+/// those in the key's reach, and those that read an element whose interval changed. How many
+/// evaluations that takes at the most is a clause of `refresh`.
 pub struct LiveTable {
     schedule: Schedule,
     /// The ends of the time children of each element, by the intervals of the schedule.
@@ -183,8 +183,8 @@ impl LiveTable {
         Ok(())
     }
 
-    // Does what the trait says of `refresh`. No element is evaluated twice, and each one that is
-    // evaluated is due: the entries have it listed, or it reads one whose interval is another
+    // Does what the trait says of `refresh`, in as many steps as some elements that are due, none of
+    // which counts twice: the entries have it listed, or it reads one whose interval is another
     // behind them than before.
     fn evaluate_due<L: Ledger>(
         &mut self,

@@ -4,14 +4,14 @@ ghost use Rattle.std.specs.Prelude.{◌≡◌, ◌==◌, ◌<◌, Some, map, len
 ghost use Rattle.std.specs.List.{position};
 ghost use Rattle.smil_model.specs.document.Document.{elements};
 ghost use Rattle.smil_laws.specs.Near.{IsIntervalNear};
-ghost use Rattle.smil_cells.specs.declared.plain.current_rows.CurrentRow.{CurrentRow as AnyRow};
-ghost use Rattle.smil_cells.specs.Rows.{empty_row};
+ghost use Rattle.smil_rounds.specs.declared.current_rows.CurrentRow.{CurrentRow as AnyRow};
+ghost use Rattle.smil_rounds.specs.Rows.{empty_row};
 ghost use Rattle.smil_nodes.specs.Schedule.{ComesFirst, slot_of};
 
 use super::due_tree::DueTree;
-use smil_cells::plain::current_rows::{CurrentRow, CurrentRows};
 use smil_element::{DueChange, Intervals};
 use smil_model::{Duplicate, Interval, Key};
+use smil_rounds::current_rows::{CurrentRow, CurrentRows};
 use smil_tree::Tree;
 use std::alloc::{AllocError, Global};
 use std::marker::Model;
@@ -37,7 +37,7 @@ impl Drop for Schedule {
 
 impl Model for Schedule {
     ghost use Rattle.std.specs.Prelude.{List};
-    ghost use Rattle.smil_cells.specs.declared.plain.current_rows.CurrentRow.{CurrentRow as AnyRow};
+    ghost use Rattle.smil_rounds.specs.declared.current_rows.CurrentRow.{CurrentRow as AnyRow};
     ghost use Rattle.smil_nodes.specs.Schedule.{IsScheduled};
 
     ghost Value = { List AnyRow };
@@ -48,7 +48,7 @@ impl Model for Schedule {
 }
 
 impl Intervals for Schedule {
-    ghost use Rattle.smil_cells.specs.Plain.{interval_in};
+    ghost use Rattle.smil_rounds.specs.Current.{interval_in};
 
     ghost given = { interval_in };
 

@@ -1,6 +1,6 @@
 //! What an evaluation reads of the other elements.
 
-ghost use Rattle.smil_cells.specs.Plain.{interval_in};
+ghost use Rattle.smil_rounds.specs.Current.{interval_in};
 
 use super::endings::Endings;
 use super::schedule::Schedule;

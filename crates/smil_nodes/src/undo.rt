@@ -4,8 +4,8 @@ ghost use Rattle.std.specs.Prelude.{◌≡◌, [], ◌∷◌, ◌++◌, true, On
 ghost use Rattle.smil_laws.specs.Near.{IsIntervalNear};
 ghost use Rattle.smil_nodes.specs.Undo.{MayGrow, has_row};
 
-use smil_cells::plain::current_rows::CurrentRow;
 use smil_element::Ending;
+use smil_rounds::current_rows::CurrentRow;
 use std::alloc::{AllocError, Global};
 use std::collections::BTreeSet;
 use std::marker::Model;

@@ -1,9 +1,9 @@
 -- The faults of values and node lines stand in their texts: a column is that of a byte of the line, or at most two more.
-use Rattle.std.proofs.Common.{◌≡◌, ℕ, ◌+◌, ◌-◌, ◌<◌, ◌≤◌, ◌&&◌, Bool, true, false, eqb, ltb, List, [], ◌∷◌, length, take, drop, Option, Some, None, Result, Ok, Err, refl, arith, length-drop, length-take}
+use Rattle.std.proofs.Common.{◌≡◌, ℕ, ◌+◌, ◌-◌, ◌≤◌, Bool, true, false, eqb, ltb, List, [], ◌∷◌, length, take, drop, Option, Some, None, Result, Ok, Err, arith, length-drop, length-take}
 use Rattle.std.specs.Prelude.{IfSome, IfErr, unwrap_or, option_and_then}
 use Rattle.std.specs.Char.{is_ascii_digit}
 use Rattle.smil_model.specs.declared.limits.TheConstants.{LINE_BYTES}
-use Rattle.std.specs.List.{prefix_len, list_all, slice_split, onto_first}
+use Rattle.std.specs.List.{prefix_len, slice_split}
 use Rattle.std.proofs.lemmas.Bool.{cond_both}
 use Rattle.std.proofs.lemmas.List.Sums.{prefix_len-le-length}
 use Rattle.smil_model.specs.declared.document.Kind.{Kind}
@@ -30,25 +30,12 @@ use Rattle.smil_grammar.specs.Lists.{item_at, piece_at, items_from, few_items, i
 use Rattle.smil_grammar.specs.Values.{id_of, attribute_name_of, restart_default_of, fill_default_of, dur_of, time_of, repeat_count_of, repeat_dur_of, restart_of, fill_of, endsync_of, peers_of, higher_of, lower_of, kept_of, is_other_value, of_list, of_value, plain_value_of, value_of}
 use Rattle.smil_grammar.specs.Clock.{clock_within}
 use Rattle.smil_grammar.specs.Attributes.{attr_name_of, name_called, name_or, unnamed, is_other_name, has, kind_called, is_other_kind}
-use Rattle.smil_grammar.specs.Nodes.{is_space, is_of_kind, is_named, WrittenAttr, attribute_at, attributes_at, with_written, Shape, shaped, shape_of, with_serial, shape_behind, saved_shape_of, repeats, kind_or, kind_of_shape, column_at, at_column, attribute_of, attr_of, attrs_from}
-use Rattle.smil_outline.specs.Steps.{StandsWithin, AllWithin, IsInLine, IsNear}
-
--- how long a text is that was cut into these pieces, and one more
-abbrev joined_len : List (List ℕ) → ℕ
-joined_len [] = 0
-joined_len (piece ∷ pieces) = length piece + 1 + joined_len pieces
-
-onto_len : (x : ℕ) (pieces : List (List ℕ)) → 0 < joined_len pieces → joined_len (onto_first x pieces) ≡ 1 + joined_len pieces
-onto_len x [] some = absurd (omega arith)
-onto_len x (piece ∷ pieces) some = omega arith
-
-split_len : (k : ℕ) (text : List ℕ) → joined_len (slice_split (λ b. eqb b k) text) ≡ length text + 1
-split_len k [] = refl
-split_len k (b ∷ text) =
-    let rest : joined_len (slice_split (λ b. eqb b k) text) ≡ length text + 1 = split_len k text in
-    cond_both (eqb b k) ([] ∷ slice_split (λ b. eqb b k) text) (onto_first b (slice_split (λ b. eqb b k) text)) (λ pieces. joined_len pieces ≡ length (b ∷ text) + 1)
-    (λ e. omega arith)
-    (λ e. let more : joined_len (onto_first b (slice_split (λ b. eqb b k) text)) ≡ 1 + joined_len (slice_split (λ b. eqb b k) text) = onto_len b (slice_split (λ b. eqb b k) text) (omega arith) in omega arith)
+use Rattle.smil_grammar.specs.Nodes.{is_of_kind, WrittenAttr, attributes_at, Shape, shaped, shape_of, with_serial, shape_behind, saved_shape_of, repeats, kind_or, kind_of_shape, column_at, at_column, attribute_of, attr_of, attrs_from}
+use Rattle.smil_grammar.proofs.Results.{after}
+use Rattle.smil_lexis.proofs.Pieces.{joined_len, split_len}
+use Rattle.smil_attrs.specs.Within.{StandsWithin, AllWithin}
+use Rattle.smil_attrs.proofs.Near.{pieces_near, shape_near}
+use Rattle.smil_outline.specs.Steps.{IsInLine, IsNear}
 
 -- ---- lists
 
@@ -56,10 +43,6 @@ abbrev ListPlace : ℕ → ListFault → Type 0
 ListPlace m (list_fault.Bad place) = place ≤ m
 ListPlace m (list_fault.Unsupported place) = place ≤ m
 ListPlace m _ = Unit {0}
-
-pub after : {A B E : Type 0} (P : E → Type 0) (r : Result A E) (f : A → Result B E) → IfErr r P → ((x : A) → IfErr (f x) P) → IfErr (r >>= f) P
-after P (Ok x) f h k = k x
-after P (Err e) f h k = h
 
 first_near : (m place : ℕ) (first : Option ℕ) → place ≤ m → IfSome first (λ p. p ≤ m) → unwrap_or first place ≤ m
 first_near m place None le h = le
@@ -178,42 +161,6 @@ attrs_near n in_seq k attrs (w ∷ ws) h =
     after (FaultWithin (n + 1)) (attr_of in_seq k w) (λ given. attrs_from in_seq k (with_attr attrs given) ws)
     (at_near n w (attribute_of in_seq k w.name w.value) h.0 (attribute_near in_seq k w.name w.value))
     (λ given. attrs_near n in_seq k (with_attr attrs given) ws h.1)
-
-written_near : (n place : ℕ) (lead value : List ℕ) → place + length lead + 1 + length value ≤ n → IfSome (attribute_at place lead value) (StandsWithin n)
-written_near n place lead value le =
-    let spaces : prefix_len is_space lead ≤ length lead = prefix_len-le-length is_space lead in
-    cond_both (ltb 0 (prefix_len is_space lead) && is_named (drop (prefix_len is_space lead) lead)) (Some (record { name = take (length (drop (prefix_len is_space lead) lead) - 1) (drop (prefix_len is_space lead) lead); name_place = place + prefix_len is_space lead; value = value; value_place = place + length lead + 1 })) None (λ r. IfSome r (StandsWithin n)) (λ e. record { name = omega arith; value = omega arith }) (λ e. tt)
-
-with_near : (n : ℕ) (w : Option WrittenAttr) (ws : Option (List WrittenAttr)) → IfSome w (StandsWithin n) → IfSome ws (AllWithin n) → IfSome (with_written w ws) (AllWithin n)
-with_near n None None h k = tt
-with_near n None (Some ws) h k = tt
-with_near n (Some w) None h k = tt
-with_near n (Some w) (Some ws) h k = (h, k)
-
-attributes_near : (n place : ℕ) (pieces : List (List ℕ)) → place + joined_len pieces ≤ n → IfSome (attributes_at place pieces) (AllWithin n)
-attributes_near n place [] le = tt
-attributes_near n place (last ∷ []) le = cond_both (list_all is_space last) (Some []) None (λ r. IfSome r (AllWithin n)) (λ e. tt) (λ e. tt)
-attributes_near n place (lead ∷ value ∷ pieces) le =
-    with_near n (attribute_at place lead value) (attributes_at (place + length lead + length value + 2) pieces)
-    (written_near n place lead value (omega arith))
-    (attributes_near n (place + length lead + length value + 2) pieces (omega arith))
-
-abbrev pub ShapeWithin : ℕ → Shape → Type 0
-ShapeWithin n shape = AllWithin n shape.attributes
-
-shaped_near : (n : ℕ) (word : List ℕ) (attributes : Option (List WrittenAttr)) → IfSome attributes (AllWithin n) → IfSome (shaped word attributes) (ShapeWithin n)
-shaped_near n word None h = tt
-shaped_near n word (Some attributes) h = cond_both _ (Some (record { kind = word; attributes = attributes })) None (λ r. IfSome r (ShapeWithin n)) (λ e. h) (λ e. tt)
-
-pieces_near : (n place : ℕ) (word text : List ℕ) → place + length text + 1 ≤ n → IfSome (shaped word (attributes_at place (slice_split (λ b. eqb b 34) text))) (ShapeWithin n)
-pieces_near n place word text le =
-    let len : joined_len (slice_split (λ b. eqb b 34) text) ≡ length text + 1 = split_len 34 text in
-    shaped_near n word (attributes_at place (slice_split (λ b. eqb b 34) text)) (attributes_near n place (slice_split (λ b. eqb b 34) text) (omega arith))
-
-pub shape_near : (n : ℕ) (line : List ℕ) → length line + 1 ≤ n → IfSome (shape_of line) (ShapeWithin n)
-shape_near n line le =
-    let kind : prefix_len is_of_kind line ≤ length line = prefix_len-le-length is_of_kind line in
-    pieces_near n (prefix_len is_of_kind line) (take (prefix_len is_of_kind line) line) (drop (prefix_len is_of_kind line) line) (omega (arith, length-drop (prefix_len is_of_kind line) line))
 
 pub plain_in_line : (line : List ℕ) → length line ≤ LINE_BYTES → IfSome (shape_of line) IsInLine
 plain_in_line line le = shape_near (LINE_BYTES + 1) line (omega arith)

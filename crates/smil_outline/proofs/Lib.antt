@@ -14,3 +14,4 @@ pub mod Validity
 pub mod Placed
 pub mod Taken
 pub mod Migrating
+pub mod Near

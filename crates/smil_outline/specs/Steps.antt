@@ -1,5 +1,5 @@
 -- A node line's reading, part by part.
-use Rattle.std.specs.Prelude.{ℕ, ◌+◌, ◌≤◌, ◌/◌, ◌%◌, List, [], ◌∷◌, length, drop, Option, Some, option_map, unwrap_or, Result, Ok, Err, nat_lt, nat_le, ◌==◌}
+use Rattle.std.specs.Prelude.{ℕ, ◌+◌, ◌*◌, ◌≤◌, ◌/◌, ◌%◌, List, length, drop, Option, Some, option_map, unwrap_or, Result, Ok, Err, nat_lt, nat_le, ◌==◌}
 use Rattle.std.specs.List.{prefix_len}
 use Rattle.smil_model.specs.declared.limits.TheConstants.{NODES, DEPTH, REFERENCES, LINE_BYTES}
 use Rattle.smil_model.specs.declared.document.Kind.{Kind}
@@ -11,8 +11,9 @@ use Rattle.smil_model.specs.document.Valid.{references, references_among}
 use Rattle.smil_grammar.specs.declared.fault.NodeFault.{NodeFault}
 use Rattle.smil_grammar.specs.declared.fault.NodeFault.TheVariants.{Unsupported, UnknownAttribute, BadValue, TooManyItems}
 use Rattle.smil_grammar.specs.Results.{◌>>=◌}
-use Rattle.smil_grammar.specs.Nodes.{WrittenAttr, Shape, is_space, kind_of_shape}
+use Rattle.smil_grammar.specs.Nodes.{Shape, is_space, kind_of_shape}
 use Rattle.smil_grammar.specs.Outlines.{Outline, refuse_if, in_line, is_misplaced, is_bad_serial, has_id, attrs_in, last_of, with_node}
+use Rattle.smil_attrs.specs.Within.{AllWithin}
 
 -- a line without its leading spaces
 abbrev pub text_of : List ℕ → List ℕ
@@ -53,16 +54,6 @@ abbrev pub node_kept : Outline → ℕ → Result Node Refusal → Result Outlin
 node_kept outline depth (Ok node) = Ok (with_node outline depth node)
 node_kept outline depth (Err refusal) = Err refusal
 
--- an attribute that stands within so many bytes
-pub record StandsWithin (bytes : ℕ) (written : WrittenAttr) : Type 0 where
-  pub name : written.name_place ≤ bytes
-  pub value : written.value_place + length written.value ≤ bytes
-
--- attributes that all stand within so many bytes
-abbrev pub AllWithin : ℕ → List WrittenAttr → Type 0
-AllWithin bytes [] = Unit {0}
-AllWithin bytes (written ∷ others) = StandsWithin bytes written × AllWithin bytes others
-
 -- a shape whose attributes stand in a line
 abbrev pub IsInLine : Shape → Type 0
 IsInLine shape = AllWithin (LINE_BYTES + 1) shape.attributes
@@ -78,3 +69,11 @@ IsNear (UnknownAttribute column) = column ≤ last_column
 IsNear (BadValue column) = column ≤ last_column
 IsNear (TooManyItems column) = column ≤ last_column
 IsNear _ = Unit {0}
+
+-- a refusal whose column, where it has one, a line has behind its spaces
+abbrev pub HasNearColumn : Refusal → Type 0
+HasNearColumn (refusal.UnknownAttribute column) = column ≤ 2 * last_column
+HasNearColumn (refusal.Unsupported column) = column ≤ 2 * last_column
+HasNearColumn (refusal.BadValue column) = column ≤ 2 * last_column
+HasNearColumn (refusal.TooManyItems column) = column ≤ 2 * last_column
+HasNearColumn _ = Unit {0}

@@ -89,8 +89,8 @@ impl Builder {
         }
     }
 
-    // Whether a line is a first one whose first word is `outline`.
-    fn opens(&self, line: &[u8]) -> bool
+    /// Whether a line is a first one whose first word is `outline`.
+    pub fn opens(&self, line: &[u8]) -> bool
         ensures { result ≡ opens_saved self.now line.now }
     {
         let (_, text) = line.split_at(runs::spaces(line));

@@ -11,7 +11,6 @@ use super::documents::document;
 use super::moments::{PlayMoment, put_clocks, put_instances};
 use super::orders::{lines_of, order_of, outline_and_orders};
 use smil_cases::{Fault, Words, put_bytes, put_flag, put_number};
-use smil_cells::PlainCells;
 use smil_diary::BookFault;
 use smil_instances::Instances;
 use smil_instances::elements::elements;
@@ -19,6 +18,7 @@ use smil_model::{
     Bytes, Doc, HORIZON, Happening, LOG_ENTRIES, LogEntry, Order, SERIALS, Steps, Who, WordList,
 };
 use smil_past::Past;
+use smil_plain::PlainCells;
 use smil_stretch::Clocks;
 use smil_tree::Tree;
 use std::alloc::{AllocError, Global};

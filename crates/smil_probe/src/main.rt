@@ -3,10 +3,12 @@
 //! case has no reading, or where the call may not be made with its arguments.
 #![tactic(auto)]
 
+mod choices;
 mod diaries;
 mod dues;
 mod durations;
 mod ends;
+mod entries;
 mod excls;
 mod outlines;
 mod rising;
@@ -15,6 +17,7 @@ mod searches;
 mod texts;
 mod times;
 mod views;
+mod walls;
 
 use smil_cases::{Cases, Fault, Words, answer_cases};
 use smil_model::Bytes;
@@ -44,8 +47,26 @@ impl Cases for Calls {
             "interval" => searches::interval(alloc, words, out),
             "endsync" => ends::implicit_by(alloc, words, out),
             "view" => views::viewed(words, out),
-            word => answer_lists(alloc, word, words, out),
+            word => answer_lines(alloc, word, words, out),
         }
+    }
+}
+
+// Answers a case on a line that is rewritten, chosen or read as a diary's.
+fn answer_lines(
+    alloc: Global,
+    word: &str,
+    words: &mut Words<'_>,
+    out: &mut Bytes,
+) -> Result<(), Fault> {
+    match word {
+        "instant" => walls::instant(words, out),
+        "anchor" => walls::anchored(words, out),
+        "rewrite" => walls::rewritten(alloc, words, out),
+        "prefer" => choices::prefer(alloc, words, out),
+        "choose" => choices::choose(alloc, words, out),
+        "entry" => entries::entry(alloc, words, out),
+        word => answer_lists(alloc, word, words, out),
     }
 }
 

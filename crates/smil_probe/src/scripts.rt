@@ -31,6 +31,14 @@ fn put_read(out: &mut Bytes, read: &Read) -> Result<(), AllocError> {
     match read {
         Read::Blank => Ok(()),
         Read::Load { name } => put_named(out, "load", name),
+        Read::LoadAt { name, start } => {
+            put_named(out, "load", name)?;
+            put_valued(out, "at", *start)
+        }
+        Read::Prefer { word, value } => {
+            put_named(out, "prefer", word)?;
+            put_bytes(out, value)
+        }
         Read::Close { name } => put_named(out, "close", name),
         Read::To { name, order } => {
             put_named(out, "to", name)?;

@@ -9,7 +9,9 @@ use Rattle.smil_model.specs.document.Valid.{may_stand}
 use Rattle.smil_grammar.specs.declared.fault.NodeFault.TheVariants as fault
 use Rattle.smil_grammar.specs.Results.{◌>>=◌}
 use Rattle.smil_grammar.specs.Nodes.{Shape, shape_of, kind_of, attrs_from, attrs_of, node_of}
-use Rattle.smil_outline.proofs.Columns.{after, FaultWithin, ShapeWithin, attrs_near, shape_near, kind_shape_near}
+use Rattle.smil_grammar.proofs.Results.{after}
+use Rattle.smil_attrs.proofs.Near.{ShapeWithin, shape_near}
+use Rattle.smil_outline.proofs.Columns.{FaultWithin, attrs_near, kind_shape_near}
 
 pub kind_in : (line : List ℕ) → IfErr (kind_of line) (FaultWithin (length line + 2))
 kind_in line = kind_shape_near (length line + 2) (shape_of line) (omega arith)

@@ -37,8 +37,3 @@ abbrev pub GivesName : {A : Type 0} → Result A Refusal → Option A → Type 0
 GivesName (Ok name) reading = reading ≡ Some name
 GivesName (Err refusal.Memory) reading = Unit {0}
 GivesName (Err given) reading = (reading ≡ None) × (given ≡ refusal.NotACommand)
-
--- a reading that holds a name
-abbrev pub with_name : (List ℕ → Read) → Result (List ℕ) Refusal → Result Read Refusal
-with_name read (Ok name) = Ok (read name)
-with_name read (Err given) = Err given

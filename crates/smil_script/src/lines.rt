@@ -4,11 +4,10 @@ ghost use Rattle.std.specs.Prelude.{◌≡◌, IsTrue, IfOk, Ok};
 ghost use Rattle.std.specs.List.{list_all};
 ghost use Rattle.smil_model.specs.shown.Answers.{IsText};
 ghost use Rattle.smil_grammar.specs.Texts.{is_white as is_white_byte};
-ghost use Rattle.smil_grammar.specs.Positions.{Piece};
-ghost use Rattle.smil_grammar.specs.Scripts.{line_of, is_blank as is_blank_line, to as to_name, finish, order_line, command as command_line, first_of, named, or_refused, opens_load as opens_load_line};
-ghost use Rattle.smil_grammar.specs.declared.read.Read.TheVariants.{Blank, Load, Close};
+ghost use Rattle.smil_grammar.specs.Scripts.{line_of, is_blank as is_blank_line, to as to_name, finish, order_line, command as command_line, first_of, close_line, start_line, load_behind as load_behind_name, load_line, is_preference as is_preference_line, prefer_line, behind_name as behind_first_name, or_refused, opens_load as opens_load_line};
+ghost use Rattle.smil_grammar.specs.declared.read.Read.TheVariants.{Blank};
 ghost use Rattle.smil_grammar.specs.Gives.{GivesReading};
-ghost use Rattle.smil_script.specs.Gives.{HoldsGiven, with_name};
+ghost use Rattle.smil_script.specs.Gives.{HoldsGiven};
 ghost use Rattle.smil_script.specs.Loads.{ends_load as ends_load_line};
 
 use super::orders::order;
@@ -17,7 +16,8 @@ use super::words::{is_presentation_name, own};
 use smil_grammar::Read;
 use smil_lexis::runs;
 use smil_lexis::texts::is;
-use smil_model::{Bytes, Refusal};
+use smil_model::Refusal;
+use smil_wall::read_instant;
 use std::alloc::Global;
 
 /// Whether a line has no answer: it is white space alone, or its first byte is `#`. It takes no
@@ -35,29 +35,111 @@ fn is_all_white(line: &[u8]) -> bool
     line.iter().all(|byte| runs::is_white(*byte))
 }
 
-// The presentation's name that is the rest of a line.
-fn presentation_name(alloc: Global, line: &Piece<'_>) -> Result<Bytes, Refusal>
-    ensures load { GivesReading (with_name Load result) (or_refused (named Load line.now)) }
-    ensures close { GivesReading (with_name Close result) (or_refused (named Close line.now)) }
+// `close`: a name.
+fn close(alloc: Global, line: &Piece<'_>) -> Result<Read, Refusal>
+    ensures reading { GivesReading result (or_refused (close_line line.now)) }
+    ensures given { IfOk result HoldsGiven }
 {
     let (word, rest) = line.first();
     if !is_presentation_name(word.text) || !rest.is_ended() {
         return Err(Refusal::NotACommand);
     }
-    own(alloc, word.text)
+    let name = own(alloc, word.text)?;
+    Ok(Read::Close { name })
 }
 
-// The order to a presentation, behind its name.
-fn to(alloc: Global, name: &[u8], line: &Piece<'_>) -> Result<Read, Refusal>
+// The instant of moment 0 of a load, behind `at`.
+fn start(alloc: Global, name: &[u8], line: &Piece<'_>) -> Result<Read, Refusal>
+    ensures reading { GivesReading result (or_refused (start_line name.now line.now)) }
+    ensures given { IfOk result HoldsGiven }
+{
+    let (word, rest) = line.first();
+    let Ok(start) = read_instant(word.text) else {
+        return Err(Refusal::NotACommand);
+    };
+    if !rest.is_ended() {
+        return Err(Refusal::NotACommand);
+    }
+    let name = own(alloc, name)?;
+    Ok(Read::LoadAt { name, start })
+}
+
+// What stands behind the name of a load: nothing, or `at` and an instant.
+fn load_behind(alloc: Global, name: &[u8], line: &Piece<'_>) -> Result<Read, Refusal>
+    ensures reading { GivesReading result (or_refused (load_behind_name name.now line.now)) }
+    ensures given { IfOk result HoldsGiven }
+{
+    if line.is_ended() {
+        let name = own(alloc, name)?;
+        return Ok(Read::Load { name });
+    }
+    let (word, rest) = line.first();
+    if !is(word.text, b"at") {
+        return Err(Refusal::NotACommand);
+    }
+    start(alloc, name, &rest)
+}
+
+// `load`: a name, and the instant of moment 0 where one is given.
+fn load(alloc: Global, line: &Piece<'_>) -> Result<Read, Refusal>
+    ensures reading { GivesReading result (or_refused (load_line line.now)) }
+    ensures given { IfOk result HoldsGiven }
+{
+    let (word, rest) = line.first();
+    if !is_presentation_name(word.text) {
+        return Err(Refusal::NotACommand);
+    }
+    load_behind(alloc, word.text, &rest)
+}
+
+// Whether a line prefers a value.
+fn is_preference(first: &[u8], second: &[u8]) -> bool
+    ensures { result ≡ is_preference_line first.now second.now }
+{
+    is(first, b"prefer")
+        && (is(second, b"bitrate")
+            || is(second, b"captions")
+            || is(second, b"audiodesc")
+            || is(second, b"language")
+            || is(second, b"screen")
+            || is(second, b"depth"))
+}
+
+// The value that is preferred for a word: one word, which may have no reading.
+fn prefer(alloc: Global, word: &[u8], line: &Piece<'_>) -> Result<Read, Refusal>
+    ensures reading { GivesReading result (or_refused (prefer_line word.now line.now)) }
+    ensures given { IfOk result HoldsGiven }
+{
+    let (value, rest) = line.first();
+    if value.text.is_empty() || !rest.is_ended() {
+        return Err(Refusal::NotACommand);
+    }
+    let word = own(alloc, word)?;
+    let value = own(alloc, value.text)?;
+    Ok(Read::Prefer { word, value })
+}
+
+// The order to a presentation of this name.
+fn to(alloc: Global, name: &[u8], verb: &[u8], line: &Piece<'_>) -> Result<Read, Refusal>
     ensures reading { GivesReading result
-        (let verb : Piece × Piece = first_of line.now in to_name name.now
-        (finish (order_line verb.0.text verb.1))) }
+        (to_name name.now (finish (order_line verb.now line.now))) }
+    ensures given { IfOk result HoldsGiven }
+{
+    let order = order(alloc, verb, line)?;
+    let name = own(alloc, name)?;
+    Ok(Read::To { name, order })
+}
+
+// A line behind its first word, which is a presentation's name unless the line prefers a value.
+fn behind_name(alloc: Global, name: &[u8], line: &Piece<'_>) -> Result<Read, Refusal>
+    ensures reading { GivesReading result (behind_first_name name.now (first_of line.now)) }
     ensures given { IfOk result HoldsGiven }
 {
     let (verb, rest) = line.first();
-    let order = order(alloc, verb.text, &rest)?;
-    let name = own(alloc, name)?;
-    Ok(Read::To { name, order })
+    if is_preference(name, verb.text) {
+        return prefer(alloc, verb.text, &rest);
+    }
+    to(alloc, name, verb.text, &rest)
 }
 
 // A line that isn't blank, by its first word.
@@ -67,13 +149,11 @@ fn command(alloc: Global, line: &Piece<'_>) -> Result<Read, Refusal>
 {
     let (word, rest) = line.first();
     if is(word.text, b"load") {
-        let name = presentation_name(alloc, &rest)?;
-        Ok(Read::Load { name })
+        load(alloc, &rest)
     } else if is(word.text, b"close") {
-        let name = presentation_name(alloc, &rest)?;
-        Ok(Read::Close { name })
+        close(alloc, &rest)
     } else if is_presentation_name(word.text) {
-        to(alloc, word.text, &rest)
+        behind_name(alloc, word.text, &rest)
     } else {
         Err(Refusal::NotACommand)
     }

@@ -20,7 +20,7 @@ use Rattle.smil_laws.proofs.NearIntervals.{interval_near}
 use Rattle.smil_past.specs.Past.{MarkedHistory, IsPresent}
 use Rattle.smil_past.specs.Past as past_of
 use Rattle.smil_cells.specs.CellsState.{CellsState, IsSettled, history_of}
-use Rattle.smil_cells.proofs.Grown.{is_late}
+use Rattle.smil_rounds.proofs.Moments.{is_late}
 use Rattle.smil_shown.proofs.SettledDiaries.{has_ended}
 
 pub from_zero : (n : ℕ) → pos 0 ≤ℤ pos n

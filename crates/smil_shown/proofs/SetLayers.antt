@@ -16,7 +16,7 @@ use Rattle.smil_model.specs.shown.Sandwich.{is_above, layer_in, layers, layers_o
 use Rattle.smil_model.specs.ListTables.{list_in, list_of, rows}
 use Rattle.smil_sandwich.specs.Stacks.{AreApart, all_applied, applied}
 use Rattle.smil_sandwich.proofs.Sorted.{all_put}
-use Rattle.smil_cells.proofs.Taking.{elements_few}
+use Rattle.smil_rounds.proofs.Taking.{elements_few}
 use Rattle.smil_shown.proofs.Apart.{Different, elements_different, front_different, layers_apart, layers_known}
 use Rattle.smil_shown.specs.Sets.{AreOfElements, AreSetsAmong, AreSetsOf, AreSettersOf, LayerTable, and_layer}
 use Rattle.smil_laws.proofs.Lists.{each_kept, filter_shorter}

@@ -1,6 +1,6 @@
 -- Orders whose lines are given other numbers.
 use Rattle.std.proofs.Common.{◌≡◌, ◌∷◌, ◌++◌, Bool, true, false, List, [], Option, Some, None, Result, Ok, Err, refl, ap, sym, subst, ◌∙◌}
-use Rattle.std.specs.Prelude.{ℕ, pos, codes, map}
+use Rattle.std.specs.Prelude.{ℕ, ℤ, pos, codes, map, if◌then◌else◌}
 use Rattle.std.specs.List.{AllZip}
 use Rattle.std.specs.Fmt.{signed_decimal}
 use Rattle.smil_model.specs.declared.order.Order.{Order}
@@ -12,17 +12,19 @@ use Rattle.smil_model.specs.shown.Orders.{Presentation, opened_within, outcome_w
 use Rattle.smil_model.specs.shown.Answers.{answer_text, load_text}
 use Rattle.smil_model.specs.shown.Lines.{ok_line, closed_line}
 use Rattle.smil_grammar.specs.declared.read.Read.{Read}
-use Rattle.smil_grammar.specs.declared.read.Read.TheVariants.{Blank, Load, Close, To}
+use Rattle.smil_grammar.specs.declared.read.Read.TheVariants.{Blank, Load, LoadAt, Prefer, Close, To}
 use Rattle.smil_grammar.specs.Results.{◌>>=◌}
 use Rattle.smil_grammar.specs.Scripts.{line_of}
 use Rattle.smil_grammar.specs.Formats.{formats}
-use Rattle.smil_grammar.specs.Outlines.{Outline, no_lines, line_within, ended, version_of}
+use Rattle.smil_grammar.specs.Outlines.{Outline, ended, version_of}
+use Rattle.smil_switch.specs.Preferences.{Wanted}
+use Rattle.smil_top.specs.Loading.{Loading, unread, loading_within}
 use Rattle.smil_top.specs.declared.fault.Fault.{Fault}
 use Rattle.smil_top.specs.Cut.{NumberedLine, OrderLines, single, load, first_line}
-use Rattle.smil_top.specs.Session.{Session, presentation_of, with_state, without, may_load}
-use Rattle.smil_top.specs.Answers.{Answer, LoadedDocument, at_line, read_of, found_presentation, said_within, name_of, outline_from, given_within, loaded_within, answer_within}
+use Rattle.smil_top.specs.Session.{Session, empty_session, presentation_of, with_state, without, may_load}
+use Rattle.smil_top.specs.Answers.{Answer, LoadedDocument, LoadHead, at_line, read_of, found_presentation, preferring, preferred_line, said_within, head_of, loading_from, given_within, loaded_within, answer_within}
 use Rattle.smil_top.specs.Transcript.{Answering, untold}
-use Rattle.smil_top.specs.Laws.{OrderAttempt, AnsweredOrder, answer_to, heard, session_after, answered_from, numbered_by, renumbered, renumbered_try, AreSameBut, without_text, with_text, refused_at, AreAside}
+use Rattle.smil_top.specs.Laws.{OrderAttempt, AnsweredOrder, answer_to, heard, session_after, answered_from, numbered_by, renumbered, renumbered_try, is_of, own_answered, AreSameBut, without_text, with_text, refused_at, AreAside}
 use Rattle.smil_top.proofs.Transcripts.{sessions_from, sessions-told}
 
 -- what a load gives, by its name, its outline and what the outline's end gives
@@ -41,33 +43,33 @@ module _ (allowed : Limits) (given : ℕ → ℕ) where
 
   -- ---- what a load gives
 
-  lines-step : (line : ℕ) (lines : List NumberedLine) (r : Result Outline Refusal)
-      → ((more : Outline) → outline_from allowed more (map (numbered_by given) lines) ≡ moved (outline_from allowed more lines))
-      → (at_line (given line) r >>= λ more. outline_from allowed more (map (numbered_by given) lines)) ≡ moved (at_line line r >>= λ more. outline_from allowed more lines)
-  lines-step line lines (Ok more) rest = rest more
-  lines-step line lines (Err refusal) rest = refl
+  lines-step : (start : Option ℤ) (line : ℕ) (lines : List NumberedLine) (r : Result Loading Refusal)
+      → ((more : Loading) → loading_from allowed start more (map (numbered_by given) lines) ≡ moved (loading_from allowed start more lines))
+      → (at_line (given line) r >>= λ more. loading_from allowed start more (map (numbered_by given) lines)) ≡ moved (at_line line r >>= λ more. loading_from allowed start more lines)
+  lines-step start line lines (Ok more) rest = rest more
+  lines-step start line lines (Err refusal) rest = refl
 
-  outline-moved : (outline : Outline) (lines : List NumberedLine) → outline_from allowed outline (map (numbered_by given) lines) ≡ moved (outline_from allowed outline lines)
-  outline-moved outline [] = refl
-  outline-moved outline (line ∷ lines) = lines-step line.number lines (line_within allowed outline line.text) (λ more. outline-moved more lines)
+  loading-moved : (start : Option ℤ) (loading : Loading) (lines : List NumberedLine) → loading_from allowed start loading (map (numbered_by given) lines) ≡ moved (loading_from allowed start loading lines)
+  loading-moved start loading [] = refl
+  loading-moved start loading (line ∷ lines) = lines-step start line.number lines (loading_within allowed start loading line.text) (λ more. loading-moved start more lines)
 
   ended-moved : (name : List ℕ) (outline : Outline) (end_line : ℕ) (d : Result Document Refusal)
       → document_from name outline (at_line (given end_line) d) ≡ moved (document_from name outline (at_line end_line d))
   ended-moved name outline end_line (Ok document) = refl
   ended-moved name outline end_line (Err refusal) = refl
 
-  abbrev nodes_from : List ℕ → ℕ → Result Outline Fault → Result LoadedDocument Fault
-  nodes_from name end_line o = o >>= λ outline. document_from name outline (at_line end_line (ended outline))
+  abbrev nodes_from : List ℕ → ℕ → Result Loading Fault → Result LoadedDocument Fault
+  nodes_from name end_line o = o >>= λ loading. document_from name loading.outline (at_line end_line (ended loading.outline))
 
-  nodes-moved : (name : List ℕ) (end_line : ℕ) (o : Result Outline Fault) → nodes_from name (given end_line) (moved o) ≡ moved (nodes_from name end_line o)
-  nodes-moved name end_line (Ok outline) = ended-moved name outline end_line (ended outline)
+  nodes-moved : (name : List ℕ) (end_line : ℕ) (o : Result Loading Fault) → nodes_from name (given end_line) (moved o) ≡ moved (nodes_from name end_line o)
+  nodes-moved name end_line (Ok loading) = ended-moved name loading.outline end_line (ended loading.outline)
   nodes-moved name end_line (Err fault) = refl
 
-  name-moved : (line end_line : ℕ) (nodes : List NumberedLine) (r : Result (List ℕ) Refusal)
-      → (at_line (given line) r >>= λ name. nodes_from name (given end_line) (outline_from allowed no_lines (map (numbered_by given) nodes)))
-      ≡ moved (at_line line r >>= λ name. nodes_from name end_line (outline_from allowed no_lines nodes))
-  name-moved line end_line nodes (Ok name) = ap (nodes_from name (given end_line)) (outline-moved no_lines nodes) ∙ nodes-moved name end_line (outline_from allowed no_lines nodes)
-  name-moved line end_line nodes (Err refusal) = refl
+  head-moved : (wanted : Wanted) (line end_line : ℕ) (nodes : List NumberedLine) (r : Result LoadHead Refusal)
+      → (at_line (given line) r >>= λ head. nodes_from head.name (given end_line) (loading_from allowed head.start (unread wanted) (map (numbered_by given) nodes)))
+      ≡ moved (at_line line r >>= λ head. nodes_from head.name end_line (loading_from allowed head.start (unread wanted) nodes))
+  head-moved wanted line end_line nodes (Ok head) = ap (nodes_from head.name (given end_line)) (loading-moved head.start (unread wanted) nodes) ∙ nodes-moved head.name end_line (loading_from allowed head.start (unread wanted) nodes)
+  head-moved wanted line end_line nodes (Err refusal) = refl
 
   -- ---- answers
 
@@ -98,15 +100,22 @@ module _ (allowed : Limits) (given : ℕ → ℕ) where
     closed_same line name (Some before) = (with_text [] (name ∷ codes "closed" ∷ []), refl)
     closed_same line name None = (refused_at line _, refl)
 
+    preferred_same : (line : ℕ) (r : Result Session Refusal)
+        → Same line (at_line line (r >>= λ after. Ok (record { text = preferred_line line; session = after }))) (at_line (given line) (r >>= λ after. Ok (record { text = preferred_line (given line); session = after })))
+    preferred_same line (Ok after) = (with_text [] (codes "prefer" ∷ []), refl)
+    preferred_same line (Err refusal) = (refused_at line refusal, refl)
+
     read_same : (line : ℕ) (r : Result Read Refusal) → Same line (at_line line (r >>= said_within allowed session line)) (at_line (given line) (r >>= said_within allowed session (given line)))
     read_same line (Ok (To name order)) = ordered_same line order name (presentation_of name session)
     read_same line (Ok (Close name)) = closed_same line name (presentation_of name session)
+    read_same line (Ok (Prefer word value)) = preferred_same line (preferring session word value)
     read_same line (Ok (Load name)) = (refused_at line _, refl)
+    read_same line (Ok (LoadAt name start)) = (refused_at line _, refl)
     read_same line (Ok Blank) = (without_text, refl)
     read_same line (Err refusal) = (refused_at line refusal, refl)
 
     abbrev opened_at : LoadedDocument → ℕ → Result Presentation Refusal → Answer
-    opened_at what line r = at_line line (r >>= λ loaded. Ok (record { text = load_text loaded ++ ok_line line what.name (pos loaded.now); session = session ++ record { name = what.name; presentation = loaded } ∷ [] }))
+    opened_at what line r = at_line line (r >>= λ loaded. Ok (record { text = load_text loaded ++ ok_line line what.name (pos loaded.now); session = record session { held = session.held ++ record { name = what.name; presentation = loaded } ∷ [] } }))
 
     opened_same : (line : ℕ) (what : LoadedDocument) (r : Result Presentation Refusal) → Same line (opened_at what line r) (opened_at what (given line) r)
     opened_same line what (Ok loaded) = (with_text (load_text loaded) (what.name ∷ signed_decimal (pos loaded.now) ∷ []), refl)
@@ -114,7 +123,7 @@ module _ (allowed : Limits) (given : ℕ → ℕ) where
 
     abbrev loaded_at : LoadedDocument → ℕ → Result (Unit {0}) Refusal → Answer
     loaded_at what line m = at_line line (m >>= λ free. opened_within allowed what.document >>= λ loaded.
-        Ok (record { text = load_text loaded ++ ok_line line what.name (pos loaded.now); session = session ++ record { name = what.name; presentation = loaded } ∷ [] }))
+        Ok (record { text = load_text loaded ++ ok_line line what.name (pos loaded.now); session = record session { held = session.held ++ record { name = what.name; presentation = loaded } ∷ [] } }))
 
     loaded_same : (line : ℕ) (what : LoadedDocument) (m : Result (Unit {0}) Refusal) → Same line (loaded_at what line m) (loaded_at what (given line) m)
     loaded_same line what (Ok free) = opened_same line what (opened_within allowed what.document)
@@ -131,8 +140,8 @@ module _ (allowed : Limits) (given : ℕ → ℕ) where
     order_same (single line) = read_same line.number (read_of line.text)
     order_same (load lines None) = (refused_at lines.head.number _, refl)
     order_same (load lines (Some end_line)) =
-        subst (λ (g : Result LoadedDocument Fault). Same lines.head.number (given_at lines.head.number (given_within allowed lines end_line)) (given_at (given lines.head.number) g))
-        (sym (name-moved lines.head.number end_line lines.nodes (line_of lines.head.text >>= name_of))) (given_same lines.head.number (given_within allowed lines end_line))
+        subst (λ (g : Result LoadedDocument Fault). Same lines.head.number (given_at lines.head.number (given_within allowed session.wanted lines end_line)) (given_at (given lines.head.number) g))
+        (sym (head-moved session.wanted lines.head.number end_line lines.nodes (line_of lines.head.text >>= head_of))) (given_same lines.head.number (given_within allowed session.wanted lines end_line))
 
     renumbered-first : (order : OrderLines) → first_line (renumbered given order) ≡ given (first_line order)
     renumbered-first (single line) = refl
@@ -171,8 +180,33 @@ module _ (allowed : Limits) (given : ℕ → ℕ) where
       ap (λ (s : Session). sessions_from answering s (map (renumbered_try given) others)) (one_same session one).1
       ∙ sessions_same (session_after session (answer_to answering session one)) others
 
+  -- the answers to the orders of a name
+  is_of-moved : (name : List ℕ) (order : OrderLines) → is_of name (renumbered given order) ≡ is_of name order
+  is_of-moved name (single line) = refl
+  is_of-moved name (load lines ended) = refl
+
+  own-step : (b : Bool) (one other : AnsweredOrder) (answered others : List AnsweredOrder) → Pair one other → AllZip Pair answered others
+      → AllZip Pair (if b then one ∷ answered else answered) (if b then other ∷ others else others)
+  own-step true one other answered others same rest = (same, rest)
+  own-step false one other answered others same rest = rest
+
+  pub own_same : (name : List ℕ) (session : Session) (tried : List OrderAttempt)
+      → AllZip Pair (own_answered name (answered_from answering session tried)) (own_answered name (answered_from answering session (map (renumbered_try given) tried)))
+  own_same name session [] = tt
+  own_same name session (one ∷ others) =
+      let same = one_same session one in
+      let answer : Answer = answer_to answering session one in
+      let moved_answer : Answer = answer_to answering session (renumbered_try given one) in
+      let here : AnsweredOrder = record { order = one.order; answer = heard answer } in
+      let there : AnsweredOrder = record { order = renumbered given one.order; answer = heard moved_answer } in
+      let behind : List AnsweredOrder = own_answered name (answered_from answering (session_after session answer) others) in
+      let moved_behind : List AnsweredOrder = own_answered name (answered_from answering (session_after session moved_answer) (map (renumbered_try given) others)) in
+      subst (λ (b : Bool). AllZip Pair (if is_of name one.order then here ∷ behind else behind) (if b then there ∷ moved_behind else moved_behind)) (sym (is_of-moved name one.order))
+      (own-step (is_of name one.order) here there behind moved_behind same.0
+      (subst (λ (s : Session). AllZip Pair behind (own_answered name (answered_from answering s (map (renumbered_try given) others)))) (sym same.1) (own_same name (session_after session answer) others)))
+
   pub are_aside : (tried : List OrderAttempt) → AreAside answering given tried
   are_aside tried = record {
-    answers = answers_same [] tried;
-    session = sessions-told answering untold (map (renumbered_try given) tried) ∙ sessions_same [] tried ∙ sym (sessions-told answering untold tried);
+    answers = answers_same empty_session tried;
+    session = sessions-told answering untold (map (renumbered_try given) tried) ∙ sessions_same empty_session tried ∙ sym (sessions-told answering untold tried);
   }

@@ -1,7 +1,8 @@
 -- No definition refuses anything since memory ran out: the orders.
 use Rattle.std.proofs.Common.{◌≡◌, ◌∷◌, ◌+◌, Bool, true, false, List, [], length, Option, Some, None, Result, Ok, Err, refl}
-use Rattle.std.specs.Prelude.{ℕ, ℤ, ◌-◌, unwrap_or, option_map, ◌/◌, ◌%◌, ◌||◌, ◌==◌, nat_le, take, drop, nat_abs, nat_lt, is_some, bytes_eq, codes}
+use Rattle.std.specs.Prelude.{ℕ, ℤ, ◌-◌, ◌*◌, unwrap_or, option_map, ◌/◌, ◌%◌, ◌||◌, ◌==◌, nat_le, take, drop, nat_abs, nat_lt, is_some, bytes_eq, codes}
 use Rattle.std.specs.List.{prefix_len}
+use Rattle.std.specs.Option.{ok_or}
 use Rattle.smil_model.specs.declared.diary.Entry.{Entry}
 use Rattle.smil_model.specs.declared.diary.Happening.{Happening}
 use Rattle.smil_model.specs.declared.diary.LogEntry.{LogEntry}
@@ -23,22 +24,30 @@ use Rattle.smil_model.specs.shown.Orders.{Presentation, and_then, unless as mode
 use Rattle.smil_model.specs.happening.Resolution.{diary_within}
 use Rattle.smil_model.specs.document.Values.{is_seq_parent}
 use Rattle.smil_grammar.specs.declared.read.Read.{Read}
-use Rattle.smil_grammar.specs.declared.read.Read.TheVariants.{Blank, Load, Close, To}
-use Rattle.smil_grammar.specs.declared.fault.NodeFault.{NodeFault}
+use Rattle.smil_grammar.specs.declared.read.Read.TheVariants.{Blank, Load, LoadAt, Prefer, Close, To}
 use Rattle.smil_grammar.specs.declared.fault.NodeFault.TheVariants as fault
 use Rattle.smil_grammar.specs.Results.{◌>>=◌}
 use Rattle.smil_grammar.specs.Positions.{Piece}
-use Rattle.smil_grammar.specs.Scripts.{OrderReading, given, timed, end_timed, finish, or_refused, to, named, is_presentation_name, order_line, command, first_of, line_of}
+use Rattle.smil_grammar.specs.Scripts.{OrderReading, given, timed, end_timed, finish, or_refused, to, load_line, close_line, prefer_line, is_preference, behind_name, is_presentation_name, order_line, command, first_of, line_of}
 use Rattle.smil_grammar.specs.Formats.{formats, written_at}
 use Rattle.smil_grammar.specs.Nodes.{Shape, is_space, shape_of, kind_of_shape}
-use Rattle.smil_grammar.specs.Outlines.{Outline, no_lines, refuse_if, is_misplaced, is_bad_serial, has_id, in_line, attrs_in, last_of, node_within, opens_saved, shape_in, with_header, header_of, shape_within, read_within, line_within, ended, with_node}
+use Rattle.smil_wall.specs.declared.fault.WallFault.{WallFault}
+use Rattle.smil_wall.specs.declared.fault.WallFault.TheVariants as wall
+use Rattle.smil_wall.specs.Rewriting.{rewritten}
+use Rattle.smil_switch.specs.declared.chosen.Chosen.{Chosen}
+use Rattle.smil_switch.specs.declared.chosen.Chosen.TheVariants.{Dropped, Kept}
+use Rattle.smil_switch.specs.Preferences.{Wanted, with_preference}
+use Rattle.smil_switch.specs.Choices.{pushed}
+use Rattle.smil_top.specs.Loading.{Loading, unread, lowered, read_raised, as_refusal, walled, raised_within, with_root, kept_within, answered_within, is_saved, loading_within}
+use Rattle.smil_grammar.specs.Outlines.{Outline, refuse_if, is_misplaced, is_bad_serial, has_id, in_line, attrs_in, last_of, node_within, opens_saved, shape_in, with_header, header_of, shape_within, read_within, line_within, ended, with_node}
 use Rattle.smil_top.specs.declared.fault.Fault.{Fault}
 use Rattle.smil_top.specs.Cut.{NumberedLine, LoadLines, OrderLines, single, load}
 use Rattle.smil_top.specs.Session.{Session, presentation_of, may_load}
-use Rattle.smil_top.specs.Answers.{Answer, LoadedDocument, at_line, read_of, found_presentation, said_within, name_of, outline_from, given_within, loaded_within, silent, answer_within, check_within}
+use Rattle.smil_top.specs.Answers.{Answer, LoadedDocument, at_line, read_of, found_presentation, preferring, said_within, check_said, head_of, loading_from, given_within, loaded_within, silent, answer_within, check_within}
 use Rattle.smil_top.specs.Transcript.{is_memory}
 use Rattle.smil_top.specs.Laws.{heard, refuses_as}
-use Rattle.smil_top.proofs.Sure.{Sure, made, refused, either, onward, attr_sure, attrs_sure, kind_shape_sure, node_sure, name_sure, column_sure, node_lacks}
+use Rattle.smil_top.proofs.SureLoads.{wall_lacks, rewritten_sure, in_line_sure, pushed_sure}
+use Rattle.smil_top.proofs.Sure.{Sure, made, refused, either, found, onward, attr_sure, attrs_sure, kind_shape_sure, node_sure, name_sure, column_sure, node_lacks}
 
 -- ---- lines
 
@@ -47,16 +56,6 @@ Fine r = Sure is_memory r
 
 no : {A : Type 0} (refusal : Refusal) → is_memory refusal ≡ false → Fine {A = A} (Err refusal)
 no refusal h = refused is_memory refusal h
-
-in_line_sure : {A : Type 0} (spaces : ℕ) (r : Result A NodeFault) → Sure node_lacks r → Fine (in_line spaces r)
-in_line_sure spaces (Ok x) h = made is_memory x
-in_line_sure spaces (Err fault.BadOutline) h = no _ refl
-in_line_sure spaces (Err (fault.Unsupported column)) h = no _ refl
-in_line_sure spaces (Err fault.BadPlace) h = no _ refl
-in_line_sure spaces (Err (fault.UnknownAttribute column)) h = no _ refl
-in_line_sure spaces (Err (fault.BadValue column)) h = no _ refl
-in_line_sure spaces (Err (fault.TooManyItems column)) h = no _ refl
-in_line_sure spaces (Err fault.Memory) h = let never : true ≡ false = h.never in absurd cc
 
 unless_sure : (b : Bool) (refusal : Refusal) → is_memory refusal ≡ false → Fine (refuse_if b refusal)
 unless_sure true refusal h = no refusal h
@@ -153,12 +152,16 @@ or_sure : (o : Option Read) → Fine (or_refused o)
 or_sure None = no refusal.NotACommand refl
 or_sure (Some read) = made is_memory read
 
+behind_sure : (name : List ℕ) (verb : Piece × Piece) → Fine (behind_name name verb)
+behind_sure name verb =
+    either is_memory (is_preference name verb.0.text) _ _ (or_sure (prefer_line verb.0.text verb.1))
+    (to_sure name (finish (order_line verb.0.text verb.1)) (finish_sure (order_line verb.0.text verb.1)))
+
 command_sure : (cut : Piece × Piece) → Fine (command cut)
 command_sure cut =
-    let verb : Piece × Piece = first_of cut.1 in
-    either is_memory (bytes_eq cut.0.text (codes "load")) _ _ (or_sure (named Load cut.1))
-    (either is_memory (bytes_eq cut.0.text (codes "close")) _ _ (or_sure (named Close cut.1))
-    (either is_memory (is_presentation_name cut.0.text) _ _ (to_sure cut.0.text (finish (order_line verb.0.text verb.1)) (finish_sure (order_line verb.0.text verb.1))) (no refusal.NotACommand refl)))
+    either is_memory (bytes_eq cut.0.text (codes "load")) _ _ (or_sure (load_line cut.1))
+    (either is_memory (bytes_eq cut.0.text (codes "close")) _ _ (or_sure (close_line cut.1))
+    (either is_memory (is_presentation_name cut.0.text) _ _ (behind_sure cut.0.text (first_of cut.1)) (no refusal.NotACommand refl)))
 
 says_sure : (line : List ℕ) → Fine (line_of line)
 says_sure line = either is_memory _ _ _ (made is_memory Blank) (command_sure (first_of (record { text = line; place = 0 })))
@@ -268,36 +271,97 @@ held_sure : (p : Option Presentation) → Fine (found_presentation p)
 held_sure None = no refusal.NoPresentation refl
 held_sure (Some p) = made is_memory p
 
+preferring_sure : (session : Session) (word value : List ℕ) → Fine (preferring session word value)
+preferring_sure session word value =
+    onward is_memory (ok_or (with_preference session.wanted word value) refusal.NotACommand) _ (found is_memory (with_preference session.wanted word value) refusal.NotACommand refl) (λ wanted. made is_memory _)
+
+checked_said_sure : (session : Session) (read : Read) → Fine (check_said session read)
+checked_said_sure session (Prefer word value) = onward is_memory (preferring session word value) silent (preferring_sure session word value) (λ after. made is_memory _)
+checked_said_sure session (To name order) = made is_memory _
+checked_said_sure session (Close name) = made is_memory _
+checked_said_sure session (Load name) = made is_memory _
+checked_said_sure session (LoadAt name start) = made is_memory _
+checked_said_sure session Blank = made is_memory _
+
 said_sure : (allowed : Limits) (session : Session) (line : ℕ) (read : Read) → Fine (said_within allowed session line read)
 said_sure allowed session line (To name order) =
     onward is_memory (found_presentation (presentation_of name session)) _ (held_sure (presentation_of name session))
     (λ before. onward is_memory (outcome_within allowed formats before order) _ (outcome_sure allowed before order) (λ after. made is_memory _))
 said_sure allowed session line (Close name) = onward is_memory (found_presentation (presentation_of name session)) _ (held_sure (presentation_of name session)) (λ before. made is_memory _)
+said_sure allowed session line (Prefer word value) = onward is_memory (preferring session word value) _ (preferring_sure session word value) (λ after. made is_memory _)
 said_sure allowed session line (Load name) = no refusal.NotACommand refl
+said_sure allowed session line (LoadAt name start) = no refusal.NotACommand refl
 said_sure allowed session line Blank = made is_memory _
 
-title_sure : (read : Read) → Fine (name_of read)
-title_sure (Load name) = made is_memory name
+title_sure : (read : Read) → Fine (head_of read)
+title_sure (Load name) = made is_memory _
+title_sure (LoadAt name start) = made is_memory _
+title_sure (Prefer word value) = no refusal.NotACommand refl
 title_sure (Close name) = no refusal.NotACommand refl
 title_sure (To name order) = no refusal.NotACommand refl
 title_sure Blank = no refusal.NotACommand refl
 
-outline_sure : (allowed : Limits) (outline : Outline) (lines : List NumberedLine) → Sure fault_lacks (outline_from allowed outline lines)
-outline_sure allowed outline [] = made fault_lacks outline
-outline_sure allowed outline (line ∷ lines) =
-    onward fault_lacks (at_line line.number (line_within allowed outline line.text)) _ (at_line_sure line.number _ (line_sure allowed outline line.text)) (λ more. outline_sure allowed more lines)
+-- ---- the lines of a load
+
+lowered_sure : (n : ℕ) (e : Refusal) → is_memory e ≡ false → is_memory (lowered n e) ≡ false
+lowered_sure n (refusal.UnknownAttribute column) h = refl
+lowered_sure n (refusal.Unsupported column) h = refl
+lowered_sure n (refusal.BadValue column) h = refl
+lowered_sure n (refusal.TooManyItems column) h = refl
+lowered_sure n other h = h
+
+raised_sure : {A : Type 0} (n : ℕ) (r : Result A Refusal) → Fine r → Fine (read_raised n r)
+raised_sure n (Ok x) h = made is_memory x
+raised_sure n (Err e) h = refused is_memory (lowered n e) (lowered_sure n e h.never)
+
+wall_sure : (r : Result (List ℕ) WallFault) → Sure wall_lacks r → Fine (as_refusal r)
+wall_sure (Ok line) h = made is_memory line
+wall_sure (Err wall.NoAnchor) h = no _ refl
+wall_sure (Err (wall.BadValue place)) h = no _ refl
+wall_sure (Err (wall.Unsupported place)) h = no _ refl
+wall_sure (Err wall.Memory) h = let never : true ≡ false = h.never in absurd cc
+
+walled_sure : (start : Option ℤ) (root : Option (List ℕ)) (line : List ℕ) → Fine (walled start root line)
+walled_sure None root line = made is_memory line
+walled_sure (Some at) root line = wall_sure (rewritten root at line) (rewritten_sure root at line)
+
+keeping_sure : (allowed : Limits) (start : Option ℤ) (loading : Loading) (n : ℕ) → Fine (kept_within allowed start loading n)
+keeping_sure allowed start loading n =
+    onward is_memory (walled start (unwrap_or loading.root None) loading.choice.line) _ (walled_sure start (unwrap_or loading.root None) loading.choice.line)
+    (λ text. onward is_memory (raised_within allowed loading.outline text n) _
+    (onward is_memory (refuse_if (nat_lt LINE_BYTES (length text)) refusal.LongLine) _ (unless_sure _ refusal.LongLine refl)
+    (λ short. onward is_memory (refuse_if (opens_saved loading.outline (drop (2 * n) text)) refusal.BadOutline) _ (unless_sure _ refusal.BadOutline refl)
+    (λ node. raised_sure n (line_within allowed loading.outline (drop (2 * n) text)) (line_sure allowed loading.outline (drop (2 * n) text)))))
+    (λ more. made is_memory _))
+
+answered_sure : (allowed : Limits) (start : Option ℤ) (loading : Loading) (chosen : Chosen) → Fine (answered_within allowed start loading chosen)
+answered_sure allowed start loading Dropped = made is_memory _
+answered_sure allowed start loading (Kept n) = keeping_sure allowed start (with_root loading) n
+
+loading_line_sure : (allowed : Limits) (start : Option ℤ) (loading : Loading) (line : List ℕ) → Fine (loading_within allowed start loading line)
+loading_line_sure allowed start loading line =
+    either is_memory (is_saved loading line) _ _
+    (onward is_memory (line_within allowed loading.outline line) _ (line_sure allowed loading.outline line) (λ more. made is_memory _))
+    (onward is_memory (refuse_if (nat_lt LINE_BYTES (length line)) refusal.LongLine) _ (unless_sure _ refusal.LongLine refl)
+    (λ short. onward is_memory (pushed loading.choice line) _ (pushed_sure loading.choice line)
+    (λ next. answered_sure allowed start (record loading { first = false; choice = next.0 }) next.1)))
+
+loading_sure : (allowed : Limits) (start : Option ℤ) (loading : Loading) (lines : List NumberedLine) → Sure fault_lacks (loading_from allowed start loading lines)
+loading_sure allowed start loading [] = made fault_lacks loading
+loading_sure allowed start loading (line ∷ lines) =
+    onward fault_lacks (at_line line.number (loading_within allowed start loading line.text)) _ (at_line_sure line.number _ (loading_line_sure allowed start loading line.text)) (λ more. loading_sure allowed start more lines)
 
 ended_sure : (outline : Outline) → Fine (ended outline)
 ended_sure outline = either is_memory _ _ _ (no refusal.BadOutline refl) (made is_memory _)
 
-given_sure : (allowed : Limits) (lines : LoadLines) (end_line : ℕ) → Sure fault_lacks (given_within allowed lines end_line)
-given_sure allowed lines end_line =
-    onward fault_lacks (at_line lines.head.number (line_of lines.head.text >>= name_of)) _ (at_line_sure lines.head.number _ (onward is_memory (line_of lines.head.text) name_of (says_sure lines.head.text) title_sure))
-    (λ name. onward fault_lacks (outline_from allowed no_lines lines.nodes) _ (outline_sure allowed no_lines lines.nodes)
-    (λ outline. onward fault_lacks (at_line end_line (ended outline)) _ (at_line_sure end_line _ (ended_sure outline)) (λ document. made fault_lacks _)))
+given_sure : (allowed : Limits) (wanted : Wanted) (lines : LoadLines) (end_line : ℕ) → Sure fault_lacks (given_within allowed wanted lines end_line)
+given_sure allowed wanted lines end_line =
+    onward fault_lacks (at_line lines.head.number (line_of lines.head.text >>= head_of)) _ (at_line_sure lines.head.number _ (onward is_memory (line_of lines.head.text) head_of (says_sure lines.head.text) title_sure))
+    (λ head. onward fault_lacks (loading_from allowed head.start (unread wanted) lines.nodes) _ (loading_sure allowed head.start (unread wanted) lines.nodes)
+    (λ loading. onward fault_lacks (at_line end_line (ended loading.outline)) _ (at_line_sure end_line _ (ended_sure loading.outline)) (λ document. made fault_lacks _)))
 
 may_load_sure : (name : List ℕ) (session : Session) → Fine (may_load name session)
-may_load_sure name session = either is_memory (is_some (presentation_of name session)) _ _ (no refusal.NameTaken refl) (either is_memory (nat_lt (length session) PRESENTATIONS) _ _ (made is_memory tt) (no refusal.TooManyPresentations refl))
+may_load_sure name session = either is_memory (is_some (presentation_of name session)) _ _ (no refusal.NameTaken refl) (either is_memory (nat_lt (length session.held) PRESENTATIONS) _ _ (made is_memory tt) (no refusal.TooManyPresentations refl))
 
 loaded_sure : (allowed : Limits) (session : Session) (line : ℕ) (given : LoadedDocument) → Fine (loaded_within allowed session line given)
 loaded_sure allowed session line what =
@@ -308,7 +372,7 @@ answer_sure allowed session (single line) =
     at_line_sure line.number _ (onward is_memory (read_of line.text) (said_within allowed session line.number) (read_sure line.text) (said_sure allowed session line.number))
 answer_sure allowed session (load lines None) = refused fault_lacks _ refl
 answer_sure allowed session (load lines (Some end_line)) =
-    onward fault_lacks (given_within allowed lines end_line) _ (given_sure allowed lines end_line)
+    onward fault_lacks (given_within allowed session.wanted lines end_line) _ (given_sure allowed session.wanted lines end_line)
     (λ what. at_line_sure lines.head.number _ (loaded_sure allowed session lines.head.number what))
 
 by_answer : (answer : Answer) → Sure fault_lacks answer → refuses_as is_memory (heard answer) ≡ false
@@ -320,10 +384,10 @@ never_lacks allowed session order = by_answer (answer_within allowed session ord
 
 -- the same where orders are checked
 checked_sure : (allowed : Limits) (session : Session) (order : OrderLines) → Sure fault_lacks (check_within allowed session order)
-checked_sure allowed session (single line) = at_line_sure line.number _ (onward is_memory (read_of line.text) (λ read. silent session) (read_sure line.text) (λ read. made is_memory _))
+checked_sure allowed session (single line) = at_line_sure line.number _ (onward is_memory (read_of line.text) (check_said session) (read_sure line.text) (checked_said_sure session))
 checked_sure allowed session (load lines None) = refused fault_lacks _ refl
 checked_sure allowed session (load lines (Some end_line)) =
-    onward fault_lacks (given_within allowed lines end_line) _ (given_sure allowed lines end_line) (λ what. made fault_lacks _)
+    onward fault_lacks (given_within allowed session.wanted lines end_line) _ (given_sure allowed session.wanted lines end_line) (λ what. made fault_lacks _)
 
 pub checked_never_lacks : (allowed : Limits) (session : Session) (order : OrderLines) → refuses_as is_memory (heard (check_within allowed session order)) ≡ false
 checked_never_lacks allowed session order = by_answer (check_within allowed session order) (checked_sure allowed session order)

@@ -24,7 +24,8 @@ use Rattle.smil_top.specs.declared.fault.Fault.{Fault}
 use Rattle.smil_top.specs.declared.loaded.LoadedDoc.{LoadedDoc as GivenDoc}
 use Rattle.smil_top.specs.declared.run.Run.{Run}
 use Rattle.smil_top.specs.Cut.{CutLines, LoadLines, OrderLines, cut_of, load, unended, with_line}
-use Rattle.smil_top.specs.Session.{Session, presentation_of, may_load}
+use Rattle.smil_top.specs.declared.session.Session.{Session as SessionSoFar}
+use Rattle.smil_top.specs.Session.{Session, presentation_of, may_join, may_load}
 use Rattle.smil_top.specs.Answers.{Answer, LoadedDocument, at_line, found_presentation, given_within, answer_of}
 use Rattle.smil_top.specs.Transcript.{TranscriptState, MayAnswer, is_memory, transcript_by, untold}
 use Rattle.smil_top.specs.Serving.{status_by}
@@ -84,7 +85,7 @@ module _ (given : LoadedDocument) (house : Presentations) (session : Session) (h
   pub counted-loaded : (p : Presentation) (rise : ℕ) → load_refusal given.name house ≡ Ok tt → opened given.document ≡ Ok p →
       rise ≤ most_loading p → least_loading p ≤ rise → IsCounted (Ok tt) (λ bound. loaded_number bound session given) rise
   counted-loaded p rise free is at_most at_least =
-      let may : may_load given.name session ≡ Ok tt = ap (may_load given.name) holds.session_is ∙ sym (may_load-held given.name house) ∙ free in
+      let may : may_load given.name session ≡ Ok tt = ap (may_join given.name) holds.session_is ∙ sym (may_load-held given.name house) ∙ free in
       let same : (bound : Bound) → bound.loading p ≡ result_unwrap_or (loaded_number bound session given) 0 =
       λ bound. sym (ap (λ f. result_unwrap_or (number_by bound f (opened given.document)) 0) may ∙ ap (λ r. result_unwrap_or (number_by bound (Ok tt) r) 0) is)
       in
@@ -129,7 +130,7 @@ at_line-number line (Err refusal) = refl
 
 -- a load whose lines were read
 pub counted-load : (r : Result (Unit {0}) Refusal) (session : Session) (lines : LoadLines) (line end_line : ℕ) (given : GivenDoc) (rise : ℕ) →
-    Gives (Ok given) (given_within limits lines end_line) ⊎ (fine given ≡ Err (record { line = lines.head.number; refusal = Memory })) →
+    Gives (Ok given) (given_within limits session.wanted lines end_line) ⊎ (fine given ≡ Err (record { line = lines.head.number; refusal = Memory })) →
     IsCounted r (λ bound. loaded_number bound session (given_of given)) rise →
     IsOrderCounted (at_line line r) (λ bound. number_of bound session (load lines (Some end_line))) rise
 counted-load r session lines line end_line given rise (inr never) counted = absurd cc
@@ -158,12 +159,12 @@ was_enough (Ok done) text counts enough = enough
 was_enough (Err fault) text counts enough = (or_parts counts.memory (is_memory fault.refusal) enough).0
 
 -- the order is within its bounds where its diary isn't full and memory suffices
-within-bounds : (answered : Result (Unit {0}) Fault) (text : AnswerText) (counts : Counts) (house : Presentations) (session : Session) (order : OrderLines) (rise : ℕ) →
-    MakesAnswer answered text house session answer_of order → IsOrderCounted answered (λ bound. number_of bound session order) rise →
+within-bounds : (answered : Result (Unit {0}) Fault) (text : AnswerText) (counts : Counts) (so_far : SessionSoFar) (session : Session) (order : OrderLines) (rise : ℕ) →
+    MakesAnswer answered text so_far session answer_of order → IsOrderCounted answered (λ bound. number_of bound session order) rise →
     (counted_as answered text counts).memory ≡ false → refuses_as is_diary_full (heard (answer_of session order)) ≡ false →
     (number_of least session order ≤ rise) × (rise ≤ number_of most session order)
-within-bounds (Ok done) text counts house session order rise made counted enough not_full = counted
-within-bounds (Err fault) text counts house session order rise made counted enough not_full = go made.1 counted
+within-bounds (Ok done) text counts so_far session order rise made counted enough not_full = counted
+within-bounds (Err fault) text counts so_far session order rise made counted enough not_full = go made.1 counted
   where
     sufficed : is_memory fault.refusal ≡ false
     sufficed = (or_parts counts.memory (is_memory fault.refusal) enough).1
@@ -178,11 +179,11 @@ within-bounds (Err fault) text counts house session order rise made counted enou
         let least_is : number_of least session order ≡ 0 = refused-0 least least_spares session order fault (sym is) in
         (omega arith, omega arith)
 
-pub evaluated-more : {run : Run} {new : Counts} {orders : List OrderLines} {told : TranscriptState} (order : OrderLines) (answered : Result (Unit {0}) Fault) (text : AnswerText) (house : Presentations) (before after : ℕ) →
-    Tells false run orders told → MakesAnswer answered text house told.session answer_of order →
+pub evaluated-more : {run : Run} {new : Counts} {orders : List OrderLines} {told : TranscriptState} (order : OrderLines) (answered : Result (Unit {0}) Fault) (text : AnswerText) (so_far : SessionSoFar) (before after : ℕ) →
+    Tells false run orders told → MakesAnswer answered text so_far told.session answer_of order →
     IsOrderCounted answered (λ bound. number_of bound told.session order) (after - before) → before ≤ after →
     new ≡ counted_as answered text run.counts → EvaluatesOn run.counts new orders (orders ++ order ∷ []) before after
-evaluated-more {run} {new} {orders} {told} order answered text house before after tells made counted le counts start evaluated = record {
+evaluated-more {run} {new} {orders} {told} order answered text so_far before after tells made counted le counts start evaluated = record {
   risen = omega (arith, evaluated.risen, le);
   bounded = λ enough none.
       let enough_now : (counted_as answered text run.counts).memory ≡ false = ap (λ (k : Counts). k.memory) (sym counts) ∙ enough in
@@ -191,7 +192,7 @@ evaluated-more {run} {new} {orders} {told} order answered text house before afte
       let parts = full-snoc untold orders order none in
       let not_full : refuses_as is_diary_full (heard (answer_of told.session order)) ≡ false = ap (λ (t : TranscriptState). refuses_as is_diary_full (heard (answer_of t.session order))) one ∙ parts.1 in
       let was : IsBounded orders (before - start) = evaluated.bounded enough_before parts.0 in
-      let here = within-bounds answered text run.counts house told.session order (after - before) made counted enough_now not_full in
+      let here = within-bounds answered text run.counts so_far told.session order (after - before) made counted enough_now not_full in
       let sum_is : (number : Session → OrderLines → ℕ) → sum_of number (orders ++ order ∷ []) ≡ sum_of number orders + number told.session order =
       λ number. sum-snoc number untold orders order ∙ ap (λ (t : TranscriptState). sum_of number orders + number t.session order) (sym one)
       in

@@ -10,7 +10,7 @@ use Rattle.smil_outline.proofs.Validity.{bytes_turned}
 use Rattle.smil_live.proofs.AgreedReferences.{bytes_same}
 use Rattle.smil_house.specs.declared.house.NamedPlayer.{NamedPlayer}
 use Rattle.smil_house.specs.House.{place_of, load_refusal, without as house_without}
-use Rattle.smil_top.specs.Session.{NamedPresentation, is_named, presentation_of, with_state, without, may_load}
+use Rattle.smil_top.specs.Session.{NamedPresentation, is_named, found_in, all_with, all_without, may_join}
 use Rattle.smil_top.specs.Houses.{Presentations, shown, AreApart}
 
 abbrev Place : Type 0
@@ -63,7 +63,7 @@ found-by true h o hs place same = refl
 found-by false h o hs place same = same ∙ ap (λ z. option_map (λ (x : Place). x.player) z) (sym (get-later h hs place))
 
 pub presentation-held : (name : List ℕ) (hs : Presentations) →
-    presentation_of name (map shown hs) ≡ option_map (λ (h : Place). h.player) (option_and_then (slice_get hs) (place_of name hs))
+    found_in name (map shown hs) ≡ option_map (λ (h : Place). h.player) (option_and_then (slice_get hs) (place_of name hs))
 presentation-held name [] = refl
 presentation-held name (h ∷ hs) =
     found-by (bytes_eq h.name name) h (find (is_named name) (map shown hs)) hs (place_of name hs) (presentation-held name hs)
@@ -76,7 +76,7 @@ some-by true h o place same = refl
 some-by false h o None same = same
 some-by false h o (Some k) same = same
 
-pub some-held : (name : List ℕ) (hs : Presentations) → is_some (place_of name hs) ≡ is_some (presentation_of name (map shown hs))
+pub some-held : (name : List ℕ) (hs : Presentations) → is_some (place_of name hs) ≡ is_some (found_in name (map shown hs))
 some-held name [] = refl
 some-held name (h ∷ hs) =
     ap (λ (o : Option ℕ). is_some o) (first-cons name h hs)
@@ -84,7 +84,7 @@ some-held name (h ∷ hs) =
 
 -- ---- whether a name may be loaded
 
-pub may_load-held : (name : List ℕ) (hs : Presentations) → load_refusal name hs ≡ may_load name (map shown hs)
+pub may_load-held : (name : List ℕ) (hs : Presentations) → load_refusal name hs ≡ may_join name (map shown hs)
 may_load-held name hs = rw (some-held name hs) (rw length-map refl)
 
 -- ---- another player in its place
@@ -103,38 +103,38 @@ if-true : (b : Bool) (x y : NamedPresentation) → b ≡ true → (if b then x e
 if-true true x y h = refl
 if-true false x y h = absurd cc
 
-untouched : (name : List ℕ) (p : Presentation) (hs : Presentations) → place_of name hs ≡ None → with_state name p (map shown hs) ≡ map shown hs
+untouched : (name : List ℕ) (p : Presentation) (hs : Presentations) → place_of name hs ≡ None → all_with name p (map shown hs) ≡ map shown hs
 untouched name p [] none = refl
 untouched name p (h ∷ hs) none =
     let u = unnamed name h hs none in
-    let rest : with_state name p (map shown hs) ≡ map shown hs = untouched name p hs u.1 in
+    let rest : all_with name p (map shown hs) ≡ map shown hs = untouched name p hs u.1 in
     ap (λ zs. (if is_named name (shown h) then record { name = h.name; presentation = p } else shown h) ∷ zs) rest
     ∙ ap (λ z. z ∷ map shown hs) (if-false (bytes_eq h.name name) (record { name = h.name; presentation = p }) (shown h) u.0)
 
 pub turned-session : (name : List ℕ) (hs : Presentations) (place : ℕ) (before after : Place) → AreApart hs → place_of name hs ≡ Some place →
     slice_get hs place ≡ Some before → after.name ≡ before.name →
-    map shown (slice_set hs place after) ≡ with_state name after.player (map shown hs)
+    map shown (slice_set hs place after) ≡ all_with name after.player (map shown hs)
 turned-session name [] place before after apart found here same = absurd cc
 turned-session name (h ∷ hs) place before after apart found here same =
     go (λ k at here. turned-session name hs k before after apart.1 at here same) place (either (bytes_eq h.name name)) found here
   where
-    go : ((k : ℕ) → place_of name hs ≡ Some k → slice_get hs k ≡ Some before → map shown (slice_set hs k after) ≡ with_state name after.player (map shown hs)) →
+    go : ((k : ℕ) → place_of name hs ≡ Some k → slice_get hs k ≡ Some before → map shown (slice_set hs k after) ≡ all_with name after.player (map shown hs)) →
         (place : ℕ) → (bytes_eq h.name name ≡ true) ⊎ (bytes_eq h.name name ≡ false) → place_of name (h ∷ hs) ≡ Some place →
-        slice_get (h ∷ hs) place ≡ Some before → map shown (slice_set (h ∷ hs) place after) ≡ with_state name after.player (map shown (h ∷ hs))
+        slice_get (h ∷ hs) place ≡ Some before → map shown (slice_set (h ∷ hs) place after) ≡ all_with name after.player (map shown (h ∷ hs))
     go rest zero (inl is) found here =
         let named : h.name ≡ name = bytes_same h.name name is in
         let head : h ≡ before = cc here in
-        let others : with_state name after.player (map shown hs) ≡ map shown hs = untouched name after.player hs (subst (λ n. place_of n hs ≡ None) named apart.0) in
+        let others : all_with name after.player (map shown hs) ≡ map shown hs = untouched name after.player hs (subst (λ n. place_of n hs ≡ None) named apart.0) in
         ap (λ n. record { name = n; presentation = after.player } ∷ map shown hs) (same ∙ ap (λ (x : Place). x.name) (sym head))
         ∙ ap (λ zs. record { name = h.name; presentation = after.player } ∷ zs) (sym others)
-        ∙ ap (λ z. z ∷ with_state name after.player (map shown hs)) (sym (if-true (bytes_eq h.name name) (record { name = h.name; presentation = after.player }) (shown h) is))
+        ∙ ap (λ z. z ∷ all_with name after.player (map shown hs)) (sym (if-true (bytes_eq h.name name) (record { name = h.name; presentation = after.player }) (shown h) is))
     go rest (suc k) (inl is) found here = absurd (let e : Some 0 ≡ Some (suc k) = sym (place-here name h hs is) ∙ found in cc)
     go rest zero (inr other) found here = absurd (let e = some-later (place_of name hs) zero (sym (place-later name h hs other) ∙ found) in cc e.2)
     go rest (suc k) (inr other) found here =
         let later = some-later (place_of name hs) (suc k) (sym (place-later name h hs other) ∙ found) in
         let at : place_of name hs ≡ Some k = later.1 ∙ ap Some (cc later.2) in
         ap (λ zs. shown h ∷ zs) (rest k at here)
-        ∙ ap (λ z. z ∷ with_state name after.player (map shown hs)) (sym (if-false (bytes_eq h.name name) (record { name = h.name; presentation = after.player }) (shown h) other))
+        ∙ ap (λ z. z ∷ all_with name after.player (map shown hs)) (sym (if-false (bytes_eq h.name name) (record { name = h.name; presentation = after.player }) (shown h) other))
 
 -- the same names stand at the same places
 pub turned-place : (name : List ℕ) (hs : Presentations) (place : ℕ) (before after : Place) → slice_get hs place ≡ Some before → after.name ≡ before.name →
@@ -160,26 +160,26 @@ turned-apart (h ∷ hs) (suc k) before after apart here same =
 
 -- ---- one is closed
 
-kept-all : (name : List ℕ) (hs : Presentations) → place_of name hs ≡ None → without name (map shown hs) ≡ map shown hs
+kept-all : (name : List ℕ) (hs : Presentations) → place_of name hs ≡ None → all_without name (map shown hs) ≡ map shown hs
 kept-all name [] none = refl
 kept-all name (h ∷ hs) none =
     let u = unnamed name h hs none in
-    ap (λ b. cond (not b) (shown h ∷ without name (map shown hs)) (without name (map shown hs))) u.0
+    ap (λ b. cond (not b) (shown h ∷ all_without name (map shown hs)) (all_without name (map shown hs))) u.0
     ∙ ap (λ zs. shown h ∷ zs) (kept-all name hs u.1)
 
 pub without-later : (h : Place) (hs : Presentations) (k : ℕ) → house_without (suc k) (h ∷ hs) ≡ h ∷ house_without k hs
 without-later h hs k = let e : suc k + 1 ≡ suc (k + 1) = omega arith in ap (λ n. (h ∷ take k hs) ++ drop n (h ∷ hs)) e
 
 pub closed-session : (name : List ℕ) (hs : Presentations) (place : ℕ) → AreApart hs → place_of name hs ≡ Some place →
-    map shown (house_without place hs) ≡ without name (map shown hs)
+    map shown (house_without place hs) ≡ all_without name (map shown hs)
 closed-session name [] place apart found = absurd cc
 closed-session name (h ∷ hs) place apart found = go (λ k at. closed-session name hs k apart.1 at) place (either (bytes_eq h.name name)) found
   where
-    go : ((k : ℕ) → place_of name hs ≡ Some k → map shown (house_without k hs) ≡ without name (map shown hs)) → (place : ℕ) → (bytes_eq h.name name ≡ true) ⊎ (bytes_eq h.name name ≡ false) → place_of name (h ∷ hs) ≡ Some place →
-        map shown (house_without place (h ∷ hs)) ≡ without name (map shown (h ∷ hs))
+    go : ((k : ℕ) → place_of name hs ≡ Some k → map shown (house_without k hs) ≡ all_without name (map shown hs)) → (place : ℕ) → (bytes_eq h.name name ≡ true) ⊎ (bytes_eq h.name name ≡ false) → place_of name (h ∷ hs) ≡ Some place →
+        map shown (house_without place (h ∷ hs)) ≡ all_without name (map shown (h ∷ hs))
     go rest zero (inl is) found =
         sym (kept-all name hs (subst (λ n. place_of n hs ≡ None) (bytes_same h.name name is) apart.0))
-        ∙ ap (λ b. cond (not b) (shown h ∷ without name (map shown hs)) (without name (map shown hs))) (sym is)
+        ∙ ap (λ b. cond (not b) (shown h ∷ all_without name (map shown hs)) (all_without name (map shown hs))) (sym is)
     go rest (suc k) (inl is) found = absurd (let e : Some 0 ≡ Some (suc k) = sym (place-here name h hs is) ∙ found in cc)
     go rest zero (inr other) found = absurd (let e = some-later (place_of name hs) zero (sym (place-later name h hs other) ∙ found) in cc e.2)
     go rest (suc k) (inr other) found =
@@ -187,7 +187,7 @@ closed-session name (h ∷ hs) place apart found = go (λ k at. closed-session n
         let at : place_of name hs ≡ Some k = later.1 ∙ ap Some (cc later.2) in
         ap (λ zs. map shown zs) (without-later h hs k)
         ∙ ap (λ zs. shown h ∷ zs) (rest k at)
-        ∙ ap (λ b. cond (not b) (shown h ∷ without name (map shown hs)) (without name (map shown hs))) (sym other)
+        ∙ ap (λ b. cond (not b) (shown h ∷ all_without name (map shown hs)) (all_without name (map shown hs))) (sym other)
 
 without-none : (k : ℕ) → house_without {P = Presentation} k [] ≡ []
 without-none zero = refl

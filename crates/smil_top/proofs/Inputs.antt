@@ -6,7 +6,7 @@ use Rattle.smil_grammar.specs.Scripts.{is_presentation_name}
 use Rattle.smil_top.specs.Cut.{OrderLines, orders}
 use Rattle.smil_top.specs.Answers.{answer_within}
 use Rattle.smil_top.specs.Transcript.{Answering, TranscriptState}
-use Rattle.smil_top.specs.Laws.{OrderAttempt, with_ease, told_by, answered_by, any_refused_as, is_of, part_of, is_too_many, renumbered, renumbered_try, lines_of, own_tried, own_answered, AllSameBut, IsAloneInInput}
+use Rattle.smil_top.specs.Laws.{OrderAttempt, with_ease, told_by, answered_by, any_refused_as, concerns, part_of, is_too_many, renumbered, renumbered_try, lines_of, own_tried, own_answered, AllSameBut, IsAloneInInput}
 use Rattle.smil_top.proofs.Again.{cut_again}
 use Rattle.smil_top.proofs.Alone.{is_alone}
 use Rattle.smil_top.proofs.Aside.{are_aside}
@@ -16,10 +16,10 @@ if_ease : (b : Bool) (order : OrderLines) (others : List OrderLines) → (if b t
 if_ease true order others = refl
 if_ease false order others = refl
 
-own-ease : (name : List ℕ) (all : List OrderLines) → own_tried name (map with_ease all) ≡ map with_ease (filter (is_of name) all)
+own-ease : (name : List ℕ) (all : List OrderLines) → own_tried name (map with_ease all) ≡ map with_ease (filter (concerns name) all)
 own-ease name [] = refl
 own-ease name (order ∷ others) =
-    ap (λ (zs : List OrderAttempt). if is_of name order then with_ease order ∷ zs else zs) (own-ease name others) ∙ if_ease (is_of name order) order (filter (is_of name) others)
+    ap (λ (zs : List OrderAttempt). if concerns name order then with_ease order ∷ zs else zs) (own-ease name others) ∙ if_ease (concerns name order) order (filter (concerns name) others)
 
 ease-renumbered : (given : ℕ → ℕ) (all : List OrderLines) → map (renumbered_try given) (map with_ease all) ≡ map with_ease (map (renumbered given) all)
 ease-renumbered given [] = refl
@@ -32,15 +32,15 @@ alone_in_input allowed name lines is_name few =
     let answering : Answering = answer_within allowed in
     let tried : List OrderAttempt = map with_ease (orders lines) in
     let alone = is_alone allowed name is_name tried few in
-    let cut = cut_again lines (is_of name) in
-    let own : List (List ℕ) = flat_map lines_of (filter (is_of name) (orders lines)) in
+    let cut = cut_again lines (concerns name) in
+    let own : List (List ℕ) = flat_map lines_of (filter (concerns name) (orders lines)) in
     let same : map (renumbered_try cut.0) (own_tried name tried) ≡ map with_ease (orders own) =
-    ap (map (renumbered_try cut.0)) (own-ease name (orders lines)) ∙ ease-renumbered cut.0 (filter (is_of name) (orders lines)) ∙ ap (map with_ease) (sym cut.1) in
+    ap (map (renumbered_try cut.0)) (own-ease name (orders lines)) ∙ ease-renumbered cut.0 (filter (concerns name) (orders lines)) ∙ ap (map with_ease) (sym cut.1) in
     record {
       own = own;
       own_is = refl;
       given = cut.0;
-      answers = subst (λ (zs : List OrderAttempt). AllSameBut cut.0 (own_answered name (answered_by answering tried)) (answered_by answering zs)) same (alone.aside cut.0);
+      answers = subst (λ (zs : List OrderAttempt). AllSameBut cut.0 (own_answered name (answered_by answering tried)) (own_answered name (answered_by answering zs))) same (alone.aside cut.0);
       session = ap (λ (t : TranscriptState). part_of name t.session) (sym (with_ease_told answering (orders lines))) ∙ alone.session
           ∙ sym (are_aside allowed cut.0 (own_tried name tried)).session ∙ ap (λ (zs : List OrderAttempt). (told_by answering zs).session) same
           ∙ ap (λ (t : TranscriptState). t.session) (with_ease_told answering (orders own));

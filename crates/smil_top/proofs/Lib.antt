@@ -2,6 +2,7 @@ pub mod Again
 pub mod Alone
 pub mod Apart
 pub mod Aside
+pub mod Auditing
 pub mod CutLines
 pub mod Cuts
 pub mod Enough
@@ -14,13 +15,18 @@ pub mod Loads
 pub mod Makings
 pub mod Migrated
 pub mod NameFilters
+pub mod Near
+pub mod Preferring
+pub mod Raised
 pub mod Serving
 pub mod SessionCounts
 pub mod SessionEnds
 pub mod SumLemmas
 pub mod Summed
 pub mod Sure
+pub mod SureLoads
 pub mod Tells
 pub mod ShortNames
 pub mod Transcripts
 pub mod Writing
+pub mod AuditInputs

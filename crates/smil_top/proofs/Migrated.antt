@@ -1,6 +1,6 @@
 -- An order that meets no limit is answered the same within larger limits.
 use Rattle.std.proofs.Common.{◌≡◌, Bool, true, false, List, [], ◌∷◌, Some, None, Result, Ok, Err, refl, ap, ◌∙◌}
-use Rattle.std.specs.Prelude.{ℕ, pos, not, ◌++◌}
+use Rattle.std.specs.Prelude.{ℕ, ℤ, Option, pos, not, ◌++◌, ◌*◌, drop, length, nat_lt, unwrap_or, if◌then◌else◌}
 use Rattle.std.proofs.lemmas.Bool.{or_parts}
 use Rattle.smil_model.specs.declared.order.Order.{Order}
 use Rattle.smil_model.specs.declared.order.Refusal.{Refusal}
@@ -9,18 +9,25 @@ use Rattle.smil_model.specs.shown.Orders.{Presentation, opened_within, outcome_w
 use Rattle.smil_model.specs.shown.Answers.{answer_text, load_text}
 use Rattle.smil_model.specs.shown.Lines.{ok_line}
 use Rattle.smil_grammar.specs.declared.read.Read.{Read}
-use Rattle.smil_grammar.specs.declared.read.Read.TheVariants.{Blank, Load, Close, To}
+use Rattle.smil_grammar.specs.declared.read.Read.TheVariants.{Blank, Load, LoadAt, Prefer, Close, To}
 use Rattle.smil_grammar.specs.Results.{◌>>=◌}
 use Rattle.smil_grammar.specs.Scripts.{line_of}
 use Rattle.smil_grammar.specs.Formats.{formats}
-use Rattle.smil_grammar.specs.Outlines.{Outline, no_lines, line_within, ended, version_of}
+use Rattle.smil_model.specs.declared.limits.TheConstants.{LINE_BYTES}
+use Rattle.smil_model.specs.declared.order.Refusal.TheVariants as refusal
+use Rattle.smil_grammar.specs.Outlines.{Outline, opens_saved, refuse_if, line_within, ended, version_of}
+use Rattle.smil_switch.specs.Preferences.{Wanted}
+use Rattle.smil_switch.specs.declared.chosen.Chosen.{Chosen}
+use Rattle.smil_switch.specs.declared.chosen.Chosen.TheVariants.{Dropped, Kept}
+use Rattle.smil_switch.specs.Choices.{Choice, pushed}
+use Rattle.smil_top.specs.Loading.{Loading, unread, read_raised, raised_within, walled, with_root, kept_within, answered_within, chosen_within, saved_within, is_saved, loading_within}
 use Rattle.smil_laws.specs.Migration.{AreBelow, is_for_limit, meets_no_limit}
 use Rattle.smil_laws.proofs.Migrating.{outcome_same, opening_same}
 use Rattle.smil_outline.proofs.Migrating.{line_same, then_same as plain_same}
 use Rattle.smil_top.specs.declared.fault.Fault.{Fault}
 use Rattle.smil_top.specs.Cut.{NumberedLine, LoadLines, OrderLines, single, load}
 use Rattle.smil_top.specs.Session.{Session, presentation_of, with_state, may_load}
-use Rattle.smil_top.specs.Answers.{AcceptedOrder, Answer, LoadedDocument, at_line, read_of, found_presentation, ordered_within, said_within, name_of, outline_from, given_within, loaded_within, checked, answer_within, check_within}
+use Rattle.smil_top.specs.Answers.{AcceptedOrder, Answer, LoadedDocument, at_line, read_of, found_presentation, ordered_within, said_within, LoadHead, head_of, loading_from, given_within, loaded_within, checked, answer_within, check_within}
 use Rattle.smil_top.specs.Transcript.{Answering, TranscriptState, with_answer, untold}
 use Rattle.smil_top.specs.Laws.{OrderAttempt, answer_to, told_by, heard, session_after, answered_from, answered_by, refuses_as, any_refused_as}
 use Rattle.smil_top.proofs.Transcripts.{told_further, session_with}
@@ -64,29 +71,79 @@ module _ (small large : Limits) (below : AreBelow small large) where
   said_same : (session : Session) (line : ℕ) (read : Read) → meets_no_limit (said_within small session line read) ≡ true → said_within large session line read ≡ said_within small session line read
   said_same session line (To name order) m = ordered_same session line name order m
   said_same session line (Close name) m = refl
+  said_same session line (Prefer word value) m = refl
   said_same session line (Load name) m = refl
+  said_same session line (LoadAt name start) m = refl
   said_same session line Blank m = refl
 
   -- ---- loads
 
-  outline_same : (outline : Outline) (lines : List NumberedLine) → spares (outline_from small outline lines) ≡ true → outline_from large outline lines ≡ outline_from small outline lines
-  outline_same outline [] m = refl
-  outline_same outline (line ∷ lines) m =
-      then_same (at_line line.number (line_within small outline line.text)) (at_line line.number (line_within large outline line.text)) (λ more. outline_from small more lines) (λ more. outline_from large more lines) m
-      (λ v. at_same line.number (line_within small outline line.text) (line_within large outline line.text) v (line_same small large below outline line.text)) (λ more v. outline_same more lines v)
+  -- a refusal of a line that was raised is for a limit where it is one of the line
+  spared : {A : Type 0} (n : ℕ) (r : Result A Refusal) → meets_no_limit (read_raised n r) ≡ true → meets_no_limit r ≡ true
+  spared n (Ok x) m = refl
+  spared n (Err (refusal.UnknownAttribute column)) m = m
+  spared n (Err (refusal.Unsupported column)) m = m
+  spared n (Err (refusal.BadValue column)) m = m
+  spared n (Err (refusal.TooManyItems column)) m = m
+  spared n (Err other) m = m
 
-  given_same : (lines : LoadLines) (end_line : ℕ) → spares (given_within small lines end_line) ≡ true → given_within large lines end_line ≡ given_within small lines end_line
-  given_same lines end_line m =
-      let with : List ℕ → Outline → Result LoadedDocument Fault = λ name outline. at_line end_line (ended outline) >>= λ document. Ok (record { name = name; document = document; version = version_of outline }) in
-      then_same (at_line lines.head.number (line_of lines.head.text >>= name_of)) (at_line lines.head.number (line_of lines.head.text >>= name_of))
-      (λ name. outline_from small no_lines lines.nodes >>= with name) (λ name. outline_from large no_lines lines.nodes >>= with name) m (λ _. refl)
-      (λ name v. then_same (outline_from small no_lines lines.nodes) (outline_from large no_lines lines.nodes) (with name) (with name) v (outline_same no_lines lines.nodes) (λ outline w. refl))
+  raised_same : (outline : Outline) (text : List ℕ) (n : ℕ) → meets_no_limit (raised_within small outline text n) ≡ true → raised_within large outline text n ≡ raised_within small outline text n
+  raised_same outline text n m =
+      plain_same (refuse_if (nat_lt LINE_BYTES (length text)) refusal.LongLine) (refuse_if (nat_lt LINE_BYTES (length text)) refusal.LongLine)
+      (λ _. refuse_if (opens_saved outline (drop (2 * n) text)) refusal.BadOutline >>= λ _. read_raised n (line_within small outline (drop (2 * n) text)))
+      (λ _. refuse_if (opens_saved outline (drop (2 * n) text)) refusal.BadOutline >>= λ _. read_raised n (line_within large outline (drop (2 * n) text))) m (λ _. refl)
+      (λ _ v. plain_same (refuse_if (opens_saved outline (drop (2 * n) text)) refusal.BadOutline) (refuse_if (opens_saved outline (drop (2 * n) text)) refusal.BadOutline)
+      (λ _. read_raised n (line_within small outline (drop (2 * n) text))) (λ _. read_raised n (line_within large outline (drop (2 * n) text))) v (λ _. refl)
+      (λ _ w. ap (read_raised n) (line_same small large below outline (drop (2 * n) text) (spared n (line_within small outline (drop (2 * n) text)) w))))
+
+  kept_same : (start : Option ℤ) (loading : Loading) (n : ℕ) → meets_no_limit (kept_within small start loading n) ≡ true → kept_within large start loading n ≡ kept_within small start loading n
+  kept_same start loading n m =
+      let text : Result (List ℕ) Refusal = walled start (unwrap_or loading.root None) loading.choice.line in
+      let with : Outline → Result Loading Refusal = λ more. Ok (record loading { outline = more }) in
+      plain_same text text (λ t. raised_within small loading.outline t n >>= with) (λ t. raised_within large loading.outline t n >>= with) m (λ _. refl)
+      (λ t v. plain_same (raised_within small loading.outline t n) (raised_within large loading.outline t n) with with v (raised_same loading.outline t n) (λ more w. refl))
+
+  answered_same : (start : Option ℤ) (loading : Loading) (chosen : Chosen) → meets_no_limit (answered_within small start loading chosen) ≡ true → answered_within large start loading chosen ≡ answered_within small start loading chosen
+  answered_same start loading Dropped m = refl
+  answered_same start loading (Kept n) m = kept_same start (with_root loading) n m
+
+  chosen_same : (start : Option ℤ) (loading : Loading) (line : List ℕ) → meets_no_limit (chosen_within small start loading line) ≡ true → chosen_within large start loading line ≡ chosen_within small start loading line
+  chosen_same start loading line m =
+      let long : Result (Unit {0}) Refusal = refuse_if (nat_lt LINE_BYTES (length line)) refusal.LongLine in
+      let next : Result (Choice × Chosen) Refusal = pushed loading.choice line in
+      let with : Limits → Choice × Chosen → Result Loading Refusal = λ allowed x. answered_within allowed start (record loading { first = false; choice = x.0 }) x.1 in
+      plain_same long long (λ _. next >>= with small) (λ _. next >>= with large) m (λ _. refl)
+      (λ _ v. plain_same next next (with small) (with large) v (λ _. refl) (λ x w. answered_same start (record loading { first = false; choice = x.0 }) x.1 w))
+
+  saved_same : (loading : Loading) (line : List ℕ) → meets_no_limit (saved_within small loading line) ≡ true → saved_within large loading line ≡ saved_within small loading line
+  saved_same loading line m =
+      let with : Outline → Result Loading Refusal = λ more. Ok (record loading { first = false; outline = more }) in
+      plain_same (line_within small loading.outline line) (line_within large loading.outline line) with with m (line_same small large below loading.outline line) (λ more w. refl)
+
+  line_by_same : (b : Bool) (start : Option ℤ) (loading : Loading) (line : List ℕ) → meets_no_limit (if b then saved_within small loading line else chosen_within small start loading line) ≡ true
+      → (if b then saved_within large loading line else chosen_within large start loading line) ≡ (if b then saved_within small loading line else chosen_within small start loading line)
+  line_by_same true start loading line m = saved_same loading line m
+  line_by_same false start loading line m = chosen_same start loading line m
+
+  loading_same : (start : Option ℤ) (loading : Loading) (lines : List NumberedLine) → spares (loading_from small start loading lines) ≡ true → loading_from large start loading lines ≡ loading_from small start loading lines
+  loading_same start loading [] m = refl
+  loading_same start loading (line ∷ lines) m =
+      then_same (at_line line.number (loading_within small start loading line.text)) (at_line line.number (loading_within large start loading line.text)) (λ more. loading_from small start more lines) (λ more. loading_from large start more lines) m
+      (λ v. at_same line.number (loading_within small start loading line.text) (loading_within large start loading line.text) v (line_by_same (is_saved loading line.text) start loading line.text)) (λ more v. loading_same start more lines v)
+
+  given_same : (wanted : Wanted) (lines : LoadLines) (end_line : ℕ) → spares (given_within small wanted lines end_line) ≡ true → given_within large wanted lines end_line ≡ given_within small wanted lines end_line
+  given_same wanted lines end_line m =
+      let with : LoadHead → Loading → Result LoadedDocument Fault = λ head loading. at_line end_line (ended loading.outline) >>= λ document. Ok (record { name = head.name; document = document; version = version_of loading.outline }) in
+      let first : Result LoadHead Fault = at_line lines.head.number (line_of lines.head.text >>= head_of) in
+      then_same first first
+      (λ head. loading_from small head.start (unread wanted) lines.nodes >>= with head) (λ head. loading_from large head.start (unread wanted) lines.nodes >>= with head) m (λ _. refl)
+      (λ head v. then_same (loading_from small head.start (unread wanted) lines.nodes) (loading_from large head.start (unread wanted) lines.nodes) (with head) (with head) v (loading_same head.start (unread wanted) lines.nodes) (λ loading w. refl))
 
   loaded_same : (session : Session) (line : ℕ) (given : LoadedDocument) → meets_no_limit (loaded_within small session line given) ≡ true → loaded_within large session line given ≡ loaded_within small session line given
   loaded_same session line given m =
       let with : Presentation → Result AcceptedOrder Refusal = λ loaded. Ok (record {
         text = load_text loaded ++ ok_line line given.name (pos loaded.now);
-        session = session ++ record { name = given.name; presentation = loaded } ∷ [];
+        session = record session { held = session.held ++ record { name = given.name; presentation = loaded } ∷ [] };
       }) in
       plain_same (may_load given.name session) (may_load given.name session) (λ _. opened_within small given.document >>= with) (λ _. opened_within large given.document >>= with) m (λ _. refl)
       (λ _ v. plain_same (opened_within small given.document) (opened_within large given.document) with with v (opening_same small large below given.document) (λ loaded w. refl))
@@ -99,18 +156,18 @@ module _ (small large : Limits) (below : AreBelow small large) where
       (λ v. plain_same (read_of line.text) (read_of line.text) (said_within small session line.number) (said_within large session line.number) v (λ _. refl) (said_same session line.number))
   answer_same session (load lines None) m = refl
   answer_same session (load lines (Some end_line)) m =
-      then_same (given_within small lines end_line) (given_within large lines end_line)
+      then_same (given_within small session.wanted lines end_line) (given_within large session.wanted lines end_line)
       (λ given. at_line lines.head.number (loaded_within small session lines.head.number given)) (λ given. at_line lines.head.number (loaded_within large session lines.head.number given)) m
-      (given_same lines end_line)
+      (given_same session.wanted lines end_line)
       (λ given v. at_same lines.head.number (loaded_within small session lines.head.number given) (loaded_within large session lines.head.number given) v (loaded_same session lines.head.number given))
 
   checked_same : (session : Session) (order : OrderLines) → spares (check_within small session order) ≡ true → check_within large session order ≡ check_within small session order
   checked_same session (single line) m = refl
   checked_same session (load lines None) m = refl
   checked_same session (load lines (Some end_line)) m =
-      then_same (given_within small lines end_line) (given_within large lines end_line)
+      then_same (given_within small session.wanted lines end_line) (given_within large session.wanted lines end_line)
       (λ given. at_line lines.head.number (checked session lines.head.number given)) (λ given. at_line lines.head.number (checked session lines.head.number given)) m
-      (given_same lines end_line) (λ given v. refl)
+      (given_same session.wanted lines end_line) (λ given v. refl)
 
   -- ---- transcripts
 

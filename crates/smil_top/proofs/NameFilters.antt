@@ -10,6 +10,7 @@ use Rattle.smil_model.specs.declared.order.Refusal.{Refusal}
 use Rattle.smil_model.specs.declared.order.Refusal.TheVariants.{NameTaken, TooManyPresentations}
 use Rattle.smil_model.specs.shown.Orders.{Presentation}
 use Rattle.smil_live.proofs.AgreedReferences.{bytes_same}
+use Rattle.smil_switch.specs.Preferences.{Wanted}
 use Rattle.smil_top.specs.Session.{NamedPresentation, Session, is_named, presentation_of, with_state, without, may_load}
 use Rattle.smil_top.specs.Laws.{part_of, is_too_many}
 use Rattle.smil_laws.proofs.Lists.{filter_shorter}
@@ -79,20 +80,26 @@ module _ (name : List ℕ) where
   named-kept true after held = refl
   named-kept false after held = refl
 
+  abbrev pub session_of : Wanted → List NamedPresentation → Session
+  session_of wanted held = record { held = held; wanted = wanted }
+
   pub part-with : (other : List ℕ) (after : Presentation) (session : Session) → part_of name (with_state other after session) ≡ with_state other after (part_of name session)
   part-with other after session =
-      filter-map (is_named name) (λ (held : NamedPresentation). if is_named other held then record { name = held.name; presentation = after } else held) (λ held. named-kept (is_named other held) after held) session
+      ap (session_of session.wanted)
+      (filter-map (is_named name) (λ (held : NamedPresentation). if is_named other held then record { name = held.name; presentation = after } else held) (λ held. named-kept (is_named other held) after held) session.held)
 
   pub part-without : (session : Session) → part_of name (without name session) ≡ without name (part_of name session)
-  part-without session = filter-swap (is_named name) (λ (held : NamedPresentation). not (is_named name held)) session
+  part-without session = ap (session_of session.wanted) (filter-swap (is_named name) (λ (held : NamedPresentation). not (is_named name held)) session.held)
 
-  pub part-own : (session : Session) (loaded : Presentation) → part_of name (session ++ record { name = name; presentation = loaded } ∷ []) ≡ part_of name session ++ record { name = name; presentation = loaded } ∷ []
+  pub part-own : (session : Session) (loaded : Presentation) →
+      part_of name (record session { held = session.held ++ record { name = name; presentation = loaded } ∷ [] }) ≡ record session { held = (part_of name session).held ++ record { name = name; presentation = loaded } ∷ [] }
   part-own session loaded =
       let new : NamedPresentation = record { name = name; presentation = loaded } in
-      filter-append (is_named name) session (new ∷ []) ∙ ap (λ (b : Bool). part_of name session ++ (if b then new ∷ [] else [])) ((bytes_eq-Decides name name).1 refl)
+      ap (session_of session.wanted)
+      (filter-append (is_named name) session.held (new ∷ []) ∙ ap (λ (b : Bool). (part_of name session).held ++ (if b then new ∷ [] else [])) ((bytes_eq-Decides name name).1 refl))
 
   pub presentation-part : (session : Session) → presentation_of name (part_of name session) ≡ presentation_of name session
-  presentation-part session = ap (option_map (λ (held : NamedPresentation). held.presentation)) (find-filter (is_named name) session)
+  presentation-part session = ap (option_map (λ (held : NamedPresentation). held.presentation)) (find-filter (is_named name) session.held)
 
   may-by : (taken : Bool) (few more : ℕ) → few ≤ more → (t : Bool) → nat_lt more PRESENTATIONS ≡ t
       → ((e : Refusal) → may_by taken t ≡ Err e → is_too_many e ≡ false) → may_by taken (nat_lt few PRESENTATIONS) ≡ may_by taken t
@@ -102,8 +109,8 @@ module _ (name : List ℕ) where
 
   pub may-part : (session : Session) → ((e : Refusal) → may_load name session ≡ Err e → is_too_many e ≡ false) → may_load name (part_of name session) ≡ may_load name session
   may-part session h =
-      ap (λ (p : Option Presentation). may_by (is_some p) (nat_lt (length (part_of name session)) PRESENTATIONS)) (presentation-part session)
-      ∙ may-by (is_some (presentation_of name session)) (length (part_of name session)) (length session) (filter_shorter (is_named name) session) (nat_lt (length session) PRESENTATIONS) refl h
+      ap (λ (p : Option Presentation). may_by (is_some p) (nat_lt (length (part_of name session).held) PRESENTATIONS)) (presentation-part session)
+      ∙ may-by (is_some (presentation_of name session)) (length (part_of name session).held) (length session.held) (filter_shorter (is_named name) session.held) (nat_lt (length session.held) PRESENTATIONS) refl h
 
 -- what is done to another name
 module _ (name other : List ℕ) (apart : bytes_eq other name ≡ false) where
@@ -116,18 +123,19 @@ module _ (name other : List ℕ) (apart : bytes_eq other name ≡ false) where
   with-by after held true e = inr (not_both held e, not_both held e)
   with-by after held false e = inl refl
 
-  pub with-other : (after : Presentation) (session : Session) → part_of name (with_state other after session) ≡ part_of name session
+  pub with-other : (after : Presentation) (session : Session) → (part_of name (with_state other after session)).held ≡ (part_of name session).held
   with-other after session =
-      filter-other (is_named name) (λ (held : NamedPresentation). if is_named other held then record { name = held.name; presentation = after } else held) (λ held. with-by after held (is_named other held) refl) session
+      filter-other (is_named name) (λ (held : NamedPresentation). if is_named other held then record { name = held.name; presentation = after } else held) (λ held. with-by after held (is_named other held) refl) session.held
 
   without-by : (held : NamedPresentation) (b : Bool) → is_named other held ≡ b → is_named name held ≡ true → not b ≡ true
   without-by held true e h = let never : false ≡ true = sym (not_both held e) ∙ h in absurd cc
   without-by held false e h = refl
 
-  pub without-other : (session : Session) → part_of name (without other session) ≡ part_of name session
-  without-other session = filter-dropped (is_named name) (λ (held : NamedPresentation). not (is_named other held)) (λ held h. without-by held (is_named other held) refl h) session
+  pub without-other : (session : Session) → (part_of name (without other session)).held ≡ (part_of name session).held
+  without-other session = filter-dropped (is_named name) (λ (held : NamedPresentation). not (is_named other held)) (λ held h. without-by held (is_named other held) refl h) session.held
 
-  pub loaded-other : (loaded : Presentation) (session : Session) → part_of name (session ++ record { name = other; presentation = loaded } ∷ []) ≡ part_of name session
+  pub loaded-other : (loaded : Presentation) (session : Session) →
+      (part_of name (record session { held = session.held ++ record { name = other; presentation = loaded } ∷ [] })).held ≡ (part_of name session).held
   loaded-other loaded session =
       let new : NamedPresentation = record { name = other; presentation = loaded } in
-      filter-append (is_named name) session (new ∷ []) ∙ ap (λ (b : Bool). part_of name session ++ (if b then new ∷ [] else [])) apart ∙ append-nil (part_of name session)
+      filter-append (is_named name) session.held (new ∷ []) ∙ ap (λ (b : Bool). (part_of name session).held ++ (if b then new ∷ [] else [])) apart ∙ append-nil (part_of name session).held

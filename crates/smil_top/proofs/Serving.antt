@@ -151,7 +151,7 @@ module _ {old new : ReaderState} {before rest after : Option (List ℕ)} {came :
       (n.0, n.1, n.2, subst (λ o. IsLine o n.1) (sym is) n.3, n.4)
 
   -- the end of the input: these are all its lines
-  next-end : Nexts old new End rest after → (came' : List ℕ) × Consumes before after came' × IsAtEnd after × (lines came' ≡ answered) × (length came' ≤ INPUT_BYTES)
+  pub next-end : Nexts old new End rest after → (came' : List ℕ) × Consumes before after came' × IsAtEnd after × (lines came' ≡ answered) × (length came' ≤ INPUT_BYTES)
   next-end (inr (closed, is, same, stays)) =
       let lines_are : (lines came ≡ answered) × (length came ≤ INPUT_BYTES) = subst (λ e. AreLines e came old.pending answered) closed has.has.lines in
       let at_end : IsAtEnd rest = elim has.unbroken [ inl is_open ↦ cc | inr ended ↦ ended.1 ] in
@@ -168,7 +168,7 @@ module _ {old new : ReaderState} {before rest after : Option (List ℕ)} {came :
       )
 
   -- the limit is passed, or a read failed: these are the whole lines of what counts
-  next-too_long : Nexts old new InputTooLong rest after → (came' : List ℕ) × Consumes before after came' × (whole_lines (counted_bytes came') ≡ answered) × (INPUT_BYTES < length came')
+  pub next-too_long : Nexts old new InputTooLong rest after → (came' : List ℕ) × Consumes before after came' × (whole_lines (counted_bytes came') ≡ answered) × (INPUT_BYTES < length came')
   next-too_long (inr h) = cc
   next-too_long (inl (is_open, reads)) =
       let next = HasAnswered-next old new InputTooLong rest after came answered has.has is_open reads in
@@ -179,7 +179,7 @@ module _ {old new : ReaderState} {before rest after : Option (List ℕ)} {came :
         lines_are.1,
       )
 
-  next-fault : Nexts old new ReadFault rest after → (came' : List ℕ) × Consumes before after came' × (whole_lines (counted_bytes came') ≡ answered) × (length came' ≤ INPUT_BYTES)
+  pub next-fault : Nexts old new ReadFault rest after → (came' : List ℕ) × Consumes before after came' × (whole_lines (counted_bytes came') ≡ answered) × (length came' ≤ INPUT_BYTES)
   next-fault (inr h) = cc
   next-fault (inl (is_open, reads)) =
       let next = HasAnswered-next old new ReadFault rest after came answered has.has is_open reads in
@@ -442,7 +442,11 @@ pub Serves-generated : {number : ℕ} {ended : Status} {before after : Option (L
     Serves (Some (mode.Gen number)) ended rest rest before after room
 Serves-generated rest text written generates = record { came = []; text = text; read = Consumes-nil rest; written = written; served = (refl, generates) }
 
--- nothing is said of evaluations where no session is read
+-- nothing is said of evaluations where a diary is audited
+pub Evaluates-audited : {ended : Status} {before after taken_before taken_after : Option (List ℕ)} {room rise : ℕ} → Serves (Some mode.Audit) ended before after taken_before taken_after room → Evaluates (Some mode.Audit) ended before after taken_before taken_after room rise
+Evaluates-audited serves = record { serves = serves; bounded = tt }
+
+-- nothing is said of evaluations where no input is read
 pub Evaluates-unread : {asked : Option Mode} {ended : Status} {before after taken_before taken_after : Option (List ℕ)} {room rise : ℕ} → reads asked ≡ false →
     Serves asked ended before after taken_before taken_after room → Evaluates asked ended before after taken_before taken_after room rise
 Evaluates-unread {asked} {ended} {before} {after} {taken_before} {taken_after} {room} {rise} unread serves = record { serves = serves; bounded = by asked serves.came unread }
@@ -450,5 +454,6 @@ Evaluates-unread {asked} {ended} {before} {after} {taken_before} {taken_after} {
     by : (asked : Option Mode) (came : List ℕ) → reads asked ≡ false → EvaluatesBy asked ended came rise
     by None came none = tt
     by (Some mode.Run) came none = absurd cc
-    by (Some mode.Check) came none = tt
+    by (Some mode.Check) came none = absurd cc
+    by (Some mode.Audit) came none = absurd cc
     by (Some (mode.Gen number)) came none = tt

@@ -10,7 +10,7 @@ use Rattle.smil_model.specs.shown.Orders.{Presentation, opened, outcome}
 use Rattle.smil_model.specs.shown.Answers.{answer_text, load_text}
 use Rattle.smil_model.specs.shown.Lines.{ok_line}
 use Rattle.smil_grammar.specs.declared.read.Read.{Read}
-use Rattle.smil_grammar.specs.declared.read.Read.TheVariants.{Blank, Load, Close, To}
+use Rattle.smil_grammar.specs.declared.read.Read.TheVariants.{Blank, Load, LoadAt, Prefer, Close, To}
 use Rattle.smil_grammar.specs.Formats.{formats}
 use Rattle.smil_grammar.specs.Results.{◌>>=◌}
 use Rattle.smil_live.specs.Counts.{least_between, when_accepted}
@@ -90,7 +90,9 @@ module _ (bound : Bound) (spares : SparesRefused bound) (session : Session) (lin
   unfolding ordered_by
   said-0 (Err refusal) refused = refl
   said-0 (Ok Blank) refused = refl
+  said-0 (Ok (Prefer word value)) refused = refl
   said-0 (Ok (Load name)) refused = refl
+  said-0 (Ok (LoadAt name start)) refused = refl
   said-0 (Ok (Close name)) refused = refl
   said-0 (Ok (To name order)) refused = held-0 name order (presentation_of name session) refused
 
@@ -98,7 +100,7 @@ module _ (bound : Bound) (spares : SparesRefused bound) (session : Session) (lin
   abbrev loaded_by : LoadedDocument → Result (Unit {0}) Refusal → Result Presentation Refusal → Result AcceptedOrder Refusal
   loaded_by given free loaded = free >>= λ done. loaded >>= λ (p : Presentation). Ok (record {
     text = load_text p ++ ok_line line given.name (pos p.now);
-    session = session ++ record { name = given.name; presentation = p } ∷ [];
+    session = record session { held = session.held ++ record { name = given.name; presentation = p } ∷ [] };
   })
 
   abbrev number_by : Result (Unit {0}) Refusal → Result Presentation Refusal → Result ℕ Refusal
@@ -120,4 +122,4 @@ pub refused-0 : (bound : Bound) → SparesRefused bound → (session : Session) 
     number_of bound session order ≡ 0
 refused-0 bound spares session (single line) fault refused = said-0 bound spares session line.number fault (read_of line.text) refused
 refused-0 bound spares session (load lines None) fault refused = refl
-refused-0 bound spares session (load lines (Some end_line)) fault refused = given-0 bound spares session lines.head.number fault (given_within limits lines end_line) refused
+refused-0 bound spares session (load lines (Some end_line)) fault refused = given-0 bound spares session lines.head.number fault (given_within limits session.wanted lines end_line) refused

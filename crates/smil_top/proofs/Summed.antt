@@ -9,7 +9,7 @@ use Rattle.smil_outside.specs.Faults.{last_count}
 use Rattle.smil_house.specs.declared.house.NamedPlayer.{NamedPlayer}
 use Rattle.smil_house.specs.House.{place_of, moment_of}
 use Rattle.smil_top.specs.Cut.{OrderLines, first_line}
-use Rattle.smil_top.specs.Session.{Session}
+use Rattle.smil_top.specs.Session.{NamedPresentation, Session, found_in}
 use Rattle.smil_top.specs.Answers.{Answer, at_line}
 use Rattle.smil_top.specs.Transcript.{Answering, TranscriptState, untold, with_answer, is_memory, IsTranscriptBy, of_nothing, and_then, transcript_by}
 use Rattle.smil_top.specs.Summary.{moment_in}
@@ -57,7 +57,7 @@ pub moment-held : (name : List ℕ) (house : Presentations) (session : Session) 
 moment-held name house session holds =
     moment-by (option_and_then (slice_get house) (place_of name house))
     ∙ ap (λ o. option_map_or (λ (p : Presentation). p.now) o 0) (sym (presentation-held name house))
-    ∙ ap (moment_in name) (sym holds.session_is)
+    ∙ ap (λ (held : List NamedPresentation). option_map_or (λ (p : Presentation). p.now) (found_in name held) 0) (sym holds.session_is)
 
 -- ---- counts
 

@@ -11,7 +11,6 @@ use Rattle.smil_model.specs.shown.Lines.{refusal_line}
 use Rattle.smil_outside.specs.declared.failed.Failed.{Failed}
 use Rattle.smil_outside.specs.Faults.{last_count}
 use Rattle.smil_model.specs.document.Words.{line_feed}
-use Rattle.smil_grammar.specs.declared.read.Read.{Read}
 use Rattle.smil_grammar.specs.Results.{◌>>=◌}
 use Rattle.smil_grammar.specs.Scripts.{line_of}
 use Rattle.smil_top.specs.declared.answer.Answer.{Answer as AnswerText}
@@ -23,10 +22,11 @@ use Rattle.smil_top.specs.declared.run.Run.{Run}
 use Rattle.smil_top.specs.declared.session.Session.{Session as KeptSession}
 use Rattle.smil_top.specs.Cut.{OrderLines, single, load as load_order, LoadLines, CutLines}
 use Rattle.smil_top.specs.Session.{Session}
-use Rattle.smil_top.specs.Answers.{Answer, LoadedDocument, at_line, said_within, silent, given_within, loaded_within, checked}
+use Rattle.smil_top.specs.Answers.{Answer, LoadedDocument, at_line, said_within, check_said, given_within, loaded_within, checked}
 use Rattle.smil_top.specs.Transcript.{TranscriptState, and_then, is_memory, with_answer}
 use Rattle.smil_top.specs.Summary.{line_count}
-use Rattle.smil_top.specs.Houses.{Presentations, Holds}
+use Rattle.smil_switch.specs.Preferences.{Wanted}
+use Rattle.smil_top.specs.Houses.{Keeps}
 use Rattle.smil_top.specs.Running.{answering, with_order, counted_on, given_of, line_by, load_by, said, text_of, AreCounted, Answers, AnswersOrders, Gives, Goes, IsOpen, IsRead, IsRunning, IsLine, Makes, MakesAnswer, Tells, Writes, WritesAll}
 use Rattle.smil_top.proofs.CutLines.{is_short-true, is_short-false}
 
@@ -84,7 +84,7 @@ told-counted (Err fault) text counts orders told order after were = record {
 
 -- what is told with an order that was answered so
 pub told-more : (checks : Bool) (run new : Run) (whole : List OrderLines) (told : TranscriptState) (order : OrderLines) (answered : Result (Unit {0}) Fault) (text : AnswerText) →
-    Tells checks run whole told → MakesAnswer answered text new.session.house told.session (answering checks) order →
+    Tells checks run whole told → MakesAnswer answered text new.session told.session (answering checks) order →
     new.session.checks ≡ run.session.checks → new.counts ≡ with_order answered (min (line_count (said answered text)) last_count) run.counts →
     (more : TranscriptState) × Tells checks new (whole ++ order ∷ []) more × (more.text ≡ told.text ++ said answered text)
 told-more checks run new whole told order (Ok done) text tells made same counts = (
@@ -92,7 +92,7 @@ told-more checks run new whole told order (Ok done) text tells made same counts 
   record {
     checks_is = same ∙ tells.checks_is;
     transcript = and_then tells.transcript order (answer_as (Ok done) text made.0) (inl (sym made.2));
-    holds = made.1;
+    keeps = made.1;
     counted = subst (λ (k : Counts). AreCounted k (whole ++ order ∷ []) (with_answer told (answer_as (Ok done) text made.0))) (sym counts) (told-counted (Ok done) text run.counts whole told order made.0 tells.counted);
   },
   refl,
@@ -102,7 +102,7 @@ told-more checks run new whole told order (Err fault) text tells made same count
   record {
     checks_is = same ∙ tells.checks_is;
     transcript = and_then tells.transcript order (Err fault) made.1;
-    holds = made.0;
+    keeps = made.0;
     counted = subst (λ (k : Counts). AreCounted k (whole ++ order ∷ []) (with_answer told (answer_as (Err fault) text told.session))) (sym counts) (told-counted (Err fault) text run.counts whole told order told.session tells.counted);
   },
   refl,
@@ -111,13 +111,13 @@ told-more checks run new whole told order (Err fault) text tells made same count
 -- the same, where its text was written, and what is kept stayed meanwhile
 pub told-order : {checks : Bool} {run new : Run} {whole : List OrderLines} {told : TranscriptState} {result : Result (Unit {0}) Failed} {before after : Option (List ℕ)} {room left : ℕ}
     (kept : KeptSession) (order : OrderLines) (answered : Result (Unit {0}) Fault) (text : AnswerText) →
-    Tells checks run whole told → MakesAnswer answered text kept.house told.session (answering checks) order →
+    Tells checks run whole told → MakesAnswer answered text kept told.session (answering checks) order →
     new.session ≡ kept → kept.checks ≡ run.session.checks → new.counts ≡ with_order answered (min (line_count (said answered text)) last_count) run.counts →
     Writes result before after room left (said answered text) →
     AnswersOrders checks result new (whole ++ order ∷ []) told before after room left
 told-order {checks} {run} {new} {whole} {told} kept order answered text tells made is same counts writes =
-    let at_end : MakesAnswer answered text new.session.house told.session (answering checks) order =
-    subst (λ (s : KeptSession). MakesAnswer answered text s.house told.session (answering checks) order) (sym is) made
+    let at_end : MakesAnswer answered text new.session told.session (answering checks) order =
+    subst (λ (s : KeptSession). MakesAnswer answered text s told.session (answering checks) order) (sym is) made
     in
     let more = told-more checks run new whole told order answered text tells at_end (ap (λ (s : KeptSession). s.checks) is ∙ same) counts in
     record { more = more.0; goes = record { text = said answered text; text_is = more.2; writes = writes }; tells = more.1 }
@@ -127,16 +127,16 @@ told-order {checks} {run} {new} {whole} {told} kept order answered text tells ma
 answer-single : (checks : Bool) (session : Session) (number : ℕ) (line : List ℕ) → length line ≤ LINE_BYTES →
     answering checks session (single (record { number = number; text = line })) ≡ at_line number (line_by checks session number line)
 answer-single true session number line short =
-    ap (λ b. at_line number ((if b then line_of line else Err LongLine) >>= λ (read : Read). silent session)) (is_short-true line short)
+    ap (λ b. at_line number ((if b then line_of line else Err LongLine) >>= check_said session)) (is_short-true line short)
 answer-single false session number line short =
     ap (λ b. at_line number ((if b then line_of line else Err LongLine) >>= said_within limits session number)) (is_short-true line short)
 
-pub single-made : (checks : Bool) (r : Result (Unit {0}) Refusal) (text : AnswerText) (house : Presentations) (session : Session) (number : ℕ) (line : List ℕ) → length line ≤ LINE_BYTES →
-    Makes r text house session (line_by checks session number line) →
-    MakesAnswer (at_line number r) text house session (answering checks) (single (record { number = number; text = line }))
-single-made checks (Ok done) text house session number line short made =
+pub single-made : (checks : Bool) (r : Result (Unit {0}) Refusal) (text : AnswerText) (so_far : KeptSession) (session : Session) (number : ℕ) (line : List ℕ) → length line ≤ LINE_BYTES →
+    Makes r text so_far session (line_by checks session number line) →
+    MakesAnswer (at_line number r) text so_far session (answering checks) (single (record { number = number; text = line }))
+single-made checks (Ok done) text so_far session number line short made =
     (made.0, made.1, answer-single checks session number line short ∙ ap (at_line number) made.2)
-single-made checks (Err refusal) text house session number line short made = (
+single-made checks (Err refusal) text so_far session number line short made = (
   made.0,
   elim made.1 [
     | inl memory ↦ inr (ap (λ r. at_line number (Err r)) memory)
@@ -145,14 +145,14 @@ single-made checks (Err refusal) text house session number line short made = (
 )
 
 -- a line that is too long
-pub long-made : (checks : Bool) (text : AnswerText) (house : Presentations) (session : Session) (number : ℕ) (line : List ℕ) → LINE_BYTES < length line → Holds house session →
-    MakesAnswer (Err (record { line = number; refusal = LongLine })) text house session (answering checks) (single (record { number = number; text = line }))
-long-made true text house session number line long holds = (
-  holds,
-  inl (sym (ap (λ b. at_line number ((if b then line_of line else Err LongLine) >>= λ (read : Read). silent session)) (is_short-false line long))),
+pub long-made : (checks : Bool) (text : AnswerText) (so_far : KeptSession) (session : Session) (number : ℕ) (line : List ℕ) → LINE_BYTES < length line → Keeps so_far session →
+    MakesAnswer (Err (record { line = number; refusal = LongLine })) text so_far session (answering checks) (single (record { number = number; text = line }))
+long-made true text so_far session number line long keeps = (
+  keeps,
+  inl (sym (ap (λ b. at_line number ((if b then line_of line else Err LongLine) >>= check_said session)) (is_short-false line long))),
 )
-long-made false text house session number line long holds = (
-  holds,
+long-made false text so_far session number line long keeps = (
+  keeps,
   inl (sym (ap (λ b. at_line number ((if b then line_of line else Err LongLine) >>= said_within limits session number)) (is_short-false line long))),
 )
 
@@ -168,25 +168,25 @@ abbrev as_answer : Result GivenDoc Fault → Answer
 as_answer (Err fault) = Err fault
 as_answer (Ok given) = Err (record { line = 0; refusal = Memory })
 
-answer-load : (checks : Bool) (session : Session) (lines : LoadLines) (end_line : ℕ) (given : Result LoadedDocument Fault) → given_within limits lines end_line ≡ given →
+answer-load : (checks : Bool) (session : Session) (lines : LoadLines) (end_line : ℕ) (given : Result LoadedDocument Fault) → given_within limits session.wanted lines end_line ≡ given →
     answering checks session (load_order lines (Some end_line)) ≡ (given >>= λ (g : LoadedDocument). at_line lines.head.number (load_by checks session lines.head.number g))
 answer-load true session lines end_line given is = ap (λ r. r >>= λ (g : LoadedDocument). at_line lines.head.number (checked session lines.head.number g)) is
 answer-load false session lines end_line given is = ap (λ r. r >>= λ (g : LoadedDocument). at_line lines.head.number (loaded_within limits session lines.head.number g)) is
 
-pub load-made : (checks : Bool) (r : Result (Unit {0}) Refusal) (text : AnswerText) (house : Presentations) (session : Session) (lines : LoadLines) (line end_line : ℕ) (given : GivenDoc) →
+pub load-made : (checks : Bool) (r : Result (Unit {0}) Refusal) (text : AnswerText) (so_far : KeptSession) (session : Session) (lines : LoadLines) (line end_line : ℕ) (given : GivenDoc) →
     line ≡ lines.head.number →
-    Gives (Ok given) (given_within limits lines end_line) ⊎ (fine given ≡ Err (record { line = lines.head.number; refusal = Memory })) →
-    Makes r text house session (load_by checks session line (given_of given)) →
-    MakesAnswer (at_line line r) text house session (answering checks) (load_order lines (Some end_line))
-load-made checks r text house session lines line end_line given same (inr never) made = absurd cc
-load-made checks (Ok done) text house session lines line end_line given same (inl gives) made = (
+    Gives (Ok given) (given_within limits session.wanted lines end_line) ⊎ (fine given ≡ Err (record { line = lines.head.number; refusal = Memory })) →
+    Makes r text so_far session (load_by checks session line (given_of given)) →
+    MakesAnswer (at_line line r) text so_far session (answering checks) (load_order lines (Some end_line))
+load-made checks r text so_far session lines line end_line given same (inr never) made = absurd cc
+load-made checks (Ok done) text so_far session lines line end_line given same (inl gives) made = (
   made.0,
   made.1,
   answer-load checks session lines end_line (Ok (given_of given)) gives
       ∙ ap (λ n. at_line n (load_by checks session n (given_of given))) (sym same)
       ∙ ap (at_line line) made.2,
 )
-load-made checks (Err refusal) text house session lines line end_line given same (inl gives) made = (
+load-made checks (Err refusal) text so_far session lines line end_line given same (inl gives) made = (
   made.0,
   elim made.1 [
     | inl memory ↦ inr (ap (λ r. at_line line (Err r)) memory ∙ ap (λ n. at_line n (Err Memory)) same)
@@ -194,17 +194,17 @@ load-made checks (Err refusal) text house session lines line end_line given same
   ],
 )
 
-pub unread-made : (checks : Bool) (text : AnswerText) (house : Presentations) (session : Session) (lines : LoadLines) (end_line : ℕ) (fault : Fault) → Holds house session →
-    Gives (Err fault) (given_within limits lines end_line) ⊎ (faulty fault ≡ Err (record { line = lines.head.number; refusal = Memory })) →
-    MakesAnswer (Err fault) text house session (answering checks) (load_order lines (Some end_line))
-unread-made checks text house session lines end_line fault holds (inl gives) = (holds, inl (sym (answer-load checks session lines end_line (Err fault) gives)))
-unread-made checks text house session lines end_line fault holds (inr memory) = (holds, inr (ap as_answer memory))
+pub unread-made : (checks : Bool) (text : AnswerText) (so_far : KeptSession) (session : Session) (lines : LoadLines) (end_line : ℕ) (fault : Fault) → Keeps so_far session →
+    Gives (Err fault) (given_within limits session.wanted lines end_line) ⊎ (faulty fault ≡ Err (record { line = lines.head.number; refusal = Memory })) →
+    MakesAnswer (Err fault) text so_far session (answering checks) (load_order lines (Some end_line))
+unread-made checks text so_far session lines end_line fault keeps (inl gives) = (keeps, inl (sym (answer-load checks session lines end_line (Err fault) gives)))
+unread-made checks text so_far session lines end_line fault keeps (inr memory) = (keeps, inr (ap as_answer memory))
 
 -- the input ends within a load
-pub unfinished-made : (checks : Bool) (text : AnswerText) (house : Presentations) (session : Session) (lines : LoadLines) (line : ℕ) → line ≡ lines.head.number → Holds house session →
-    MakesAnswer (Err (record { line = line; refusal = UnfinishedLoad })) text house session (answering checks) (load_order lines None)
-unfinished-made true text house session lines line same holds = (holds, inl (ap (λ n. at_line n (Err UnfinishedLoad)) same))
-unfinished-made false text house session lines line same holds = (holds, inl (ap (λ n. at_line n (Err UnfinishedLoad)) same))
+pub unfinished-made : (checks : Bool) (text : AnswerText) (so_far : KeptSession) (session : Session) (lines : LoadLines) (line : ℕ) → line ≡ lines.head.number → Keeps so_far session →
+    MakesAnswer (Err (record { line = line; refusal = UnfinishedLoad })) text so_far session (answering checks) (load_order lines None)
+unfinished-made true text so_far session lines line same keeps = (keeps, inl (ap (λ n. at_line n (Err UnfinishedLoad)) same))
+unfinished-made false text so_far session lines line same keeps = (keeps, inl (ap (λ n. at_line n (Err UnfinishedLoad)) same))
 
 -- ---- the load that hasn't ended
 
@@ -218,20 +218,20 @@ shown-line {line = line} is shows =
     let l = subst (λ o. Shows o line) is shows in
     (l.0, subst (λ zs. length zs ≤ LINE_BYTES) (sym l.0) l.1)
 
-open-some : (load : Load) (at : Option LoadLines) → IsOpen (Some load) at → (lines : LoadLines) × (at ≡ Some lines) × IsRead load lines
-open-some load None h = absurd h
-open-some load (Some lines) h = (lines, refl, h)
+open-some : (load : Load) (wanted : Wanted) (at : Option LoadLines) → IsOpen (Some load) wanted at → (lines : LoadLines) × (at ≡ Some lines) × IsRead load wanted lines
+open-some load wanted None h = absurd h
+open-some load wanted (Some lines) h = (lines, refl, h)
 
-open-none : (at : Option LoadLines) → IsOpen None at → at ≡ None
-open-none None h = refl
-open-none (Some lines) h = absurd h
+open-none : (wanted : Wanted) (at : Option LoadLines) → IsOpen None wanted at → at ≡ None
+open-none wanted None h = refl
+open-none wanted (Some lines) h = absurd h
 
-pub load-of : (load : Load) (at : Option Load) (lines : Option LoadLines) → IsOpen at lines → at ≡ Some load →
-    (lines' : LoadLines) × (lines ≡ Some lines') × IsRead load lines'
-load-of load at lines stands is = open-some load lines (subst (λ o. IsOpen o lines) is stands)
+pub load-of : (load : Load) (wanted : Wanted) (at : Option Load) (lines : Option LoadLines) → IsOpen at wanted lines → at ≡ Some load →
+    (lines' : LoadLines) × (lines ≡ Some lines') × IsRead load wanted lines'
+load-of load wanted at lines stands is = open-some load wanted lines (subst (λ o. IsOpen o wanted lines) is stands)
 
-pub no_load-of : (at : Option Load) (lines : Option LoadLines) → IsOpen at lines → at ≡ None → lines ≡ None
-no_load-of at lines stands is = open-none lines (subst (λ o. IsOpen o lines) is stands)
+pub no_load-of : (wanted : Wanted) (at : Option Load) (lines : Option LoadLines) → IsOpen at wanted lines → at ≡ None → lines ≡ None
+no_load-of wanted at lines stands is = open-none wanted lines (subst (λ o. IsOpen o wanted lines) is stands)
 
 -- ---- a line
 
@@ -242,7 +242,7 @@ pub running-order : {checks : Bool} {result : Result (Unit {0}) Failed} {run : R
 running-order {checks} {run = run} is no_load answers = record {
   more = answers.more;
   goes = answers.goes;
-  running = subst (λ (c : CutLines). IsRunning checks run c answers.more) (sym is) (record { tells = answers.tells; load = subst (λ o. IsOpen o None) (sym no_load) tt });
+  running = subst (λ (c : CutLines). IsRunning checks run c answers.more) (sym is) (record { tells = answers.tells; load = subst (λ o. IsOpen o answers.more.session.wanted None) (sym no_load) tt });
 }
 
 -- nothing is told
@@ -251,12 +251,12 @@ Goes-nothing told before room nothing = record { text = []; text_is = sym (appen
 
 -- nothing is told, and a load hasn't ended
 pub running-load : {checks : Bool} {run : Run} {load : Load} {cut : CutLines} {count : ℕ} {whole : List OrderLines} {lines : LoadLines} {told : TranscriptState} {before : Option (List ℕ)} {room : ℕ} →
-    cut ≡ record { count = count; whole = whole; «open» = Some lines } → run.load ≡ Some load → IsRead load lines → Tells checks run whole told →
+    cut ≡ record { count = count; whole = whole; «open» = Some lines } → run.load ≡ Some load → IsRead load told.session.wanted lines → Tells checks run whole told →
     WritesAll before before room room [] → Answers checks (Ok tt) run cut told before before room room
 running-load {checks} {run} {lines = lines} {told = told} {before = before} {room = room} is loaded read tells nothing = record {
   more = told;
   goes = Goes-nothing told before room nothing;
-  running = subst (λ (c : CutLines). IsRunning checks run c told) (sym is) (record { tells = tells; load = subst (λ o. IsOpen o (Some lines)) (sym loaded) read });
+  running = subst (λ (c : CutLines). IsRunning checks run c told) (sym is) (record { tells = tells; load = subst (λ o. IsOpen o told.session.wanted (Some lines)) (sym loaded) read });
 }
 
 -- what is told stays where the run differs in its load alone
@@ -265,6 +265,6 @@ pub tells-on : (checks : Bool) (run new : Run) (whole : List OrderLines) (told :
 tells-on checks run new whole told session counts tells = record {
   checks_is = ap (λ s. s.checks) session ∙ tells.checks_is;
   transcript = tells.transcript;
-  holds = subst (λ s. Holds s.house told.session) (sym session) tells.holds;
+  keeps = subst (λ s. Keeps s told.session) (sym session) tells.keeps;
   counted = subst (λ k. AreCounted k whole told) (sym counts) tells.counted;
 }

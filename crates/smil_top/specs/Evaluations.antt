@@ -16,7 +16,7 @@ use Rattle.smil_live.specs.Counts.{most_loading, least_loading, most_number, lea
 use Rattle.smil_top.specs.declared.fault.Fault.{Fault}
 use Rattle.smil_top.specs.declared.status.Status.{Status}
 use Rattle.smil_top.specs.Cut.{LoadLines, OrderLines, single, load, orders}
-use Rattle.smil_top.specs.Session.{Session, presentation_of, may_load}
+use Rattle.smil_top.specs.Session.{Session, empty_session, presentation_of, may_load}
 use Rattle.smil_top.specs.Answers.{LoadedDocument, at_line, read_of, found_presentation, given_within, answer_of}
 use Rattle.smil_top.specs.Words.{is_told}
 use Rattle.smil_top.specs.Serving.{Serves}
@@ -43,7 +43,7 @@ ordered_number bound session name order = do
   before ← found_presentation (presentation_of name session)
   Ok (bound.number before order)
 
--- by what the line says; a close and a blank line have 0
+-- by what the line says; a close, a preference and a blank line have 0
 abbrev pub said_number : Bound → Session → Read → Result ℕ Refusal
 said_number bound session (To name order) = ordered_number bound session name order
 said_number bound session _ = Ok 0
@@ -62,7 +62,7 @@ loaded_number bound session given = do
 -- of the lines of a load, and the line that ends it
 abbrev pub load_number : Bound → Session → LoadLines → ℕ → Result ℕ Fault
 load_number bound session lines end_line = do
-  given ← given_within limits lines end_line
+  given ← given_within limits session.wanted lines end_line
   at_line lines.head.number (loaded_number bound session given)
 
 -- of an order; one that is refused has 0
@@ -90,7 +90,7 @@ sum_from number session (order ∷ others) =
 
 -- from the empty session on
 abbrev pub sum_of : (Session → OrderLines → ℕ) → List OrderLines → ℕ
-sum_of number orders = sum_from number [] orders
+sum_of number orders = sum_from number empty_session orders
 
 -- the refusal of an order whose diary would have too many entries
 abbrev pub is_diary_full : Refusal → Bool

@@ -1,5 +1,5 @@
 -- Laws over transcripts, each the contract of a function of its own.
-use Rattle.std.specs.Prelude.{◌≡◌, ◌⊎◌, ℕ, Bool, true, false, ◌||◌, List, [], ◌∷◌, ◌++◌, map, filter, fold, flat_map, bytes_eq, codes, decimal, Option, Some, None, option_map, Result, Ok, Err, if◌then◌else◌}
+use Rattle.std.specs.Prelude.{◌≡◌, ◌⊎◌, ℕ, Bool, true, false, not, ◌&&◌, ◌||◌, List, [], ◌∷◌, ◌++◌, map, filter, fold, flat_map, bytes_eq, codes, decimal, Option, Some, None, option_map, Result, Ok, Err, if◌then◌else◌}
 use Rattle.std.specs.List.{list_any, AllZip}
 use Rattle.std.specs.Str.Lines.{lines}
 use Rattle.smil_model.specs.declared.order.Refusal.{Refusal}
@@ -8,12 +8,13 @@ use Rattle.smil_model.specs.document.Limits.{Limits}
 use Rattle.smil_model.specs.shown.Lines.{refusal_line, line_of as text_line}
 use Rattle.smil_outside.specs.Lines.{whole_lines}
 use Rattle.smil_grammar.specs.declared.read.Read.{Read}
-use Rattle.smil_grammar.specs.declared.read.Read.TheVariants.{Load, Close}
-use Rattle.smil_grammar.specs.Scripts.{first_of, is_presentation_name, line_of}
+use Rattle.smil_grammar.specs.declared.read.Read.TheVariants.{Load, LoadAt, Close}
+use Rattle.smil_grammar.specs.Positions.{Piece}
+use Rattle.smil_grammar.specs.Scripts.{first_of, is_preference, is_presentation_name, line_of}
 use Rattle.smil_laws.specs.Migration.{AreBelow, is_for_limit}
 use Rattle.smil_top.specs.declared.fault.Fault.{Fault}
 use Rattle.smil_top.specs.Cut.{NumberedLine, OrderLines, single, load, first_line, whole_orders, orders}
-use Rattle.smil_top.specs.Session.{Session, is_named, presentation_of}
+use Rattle.smil_top.specs.Session.{Session, empty_session, is_named, presentation_of}
 use Rattle.smil_top.specs.Answers.{Answer, at_line, answer_within, check_within}
 use Rattle.smil_top.specs.Transcript.{Answering, TranscriptState, untold, with_answer, is_memory, IsTranscriptBy, transcript_by}
 
@@ -72,7 +73,7 @@ answered_from answering session (one ∷ others) =
 
 -- from the empty session on
 abbrev pub answered_by : Answering → List OrderAttempt → List AnsweredOrder
-answered_by answering tried = answered_from answering [] tried
+answered_by answering tried = answered_from answering empty_session tried
 
 -- the lines of an answer
 abbrev pub answer_lines : Heard → List ℕ
@@ -237,16 +238,35 @@ closes name _ = false
 -- whether what a line says loads this name
 abbrev pub loads : List ℕ → Result Read Refusal → Bool
 loads name (Ok (Load loaded)) = bytes_eq loaded name
+loads name (Ok (LoadAt loaded start)) = bytes_eq loaded name
 loads name _ = false
 
--- the orders of a name: the lines whose first word it is, and its `close` and `load` orders
+-- whether a line's first two words say that it prefers a value
+abbrev pub prefers : List ℕ → Bool
+prefers line =
+    let cut : Piece × Piece = first_of (record { text = line; place = 0 }) in
+    is_preference cut.0.text (first_of cut.1).0.text
+
+-- the orders that prefer a value, or would if it had a reading
+abbrev pub is_preferring : OrderLines → Bool
+is_preferring (single line) = prefers line.text
+is_preferring (load lines ended) = false
+
+-- the orders of a name: the lines whose first word it is but those that prefer a value,
+-- and its `close` and `load` orders
 abbrev pub is_of : List ℕ → OrderLines → Bool
-is_of name (single line) = bytes_eq (first_word line.text) name || closes name (line_of line.text)
+is_of name (single line) =
+    (bytes_eq (first_word line.text) name && not (prefers line.text))
+    || closes name (line_of line.text)
 is_of name (load lines ended) = loads name (line_of lines.head.text)
 
--- what a session has of a name
+-- the orders by which what is told of a name goes: its own, and those that prefer a value
+abbrev pub concerns : List ℕ → OrderLines → Bool
+concerns name order = is_of name order || is_preferring order
+
+-- what a session has of a name, and what it prefers
 abbrev pub part_of : List ℕ → Session → Session
-part_of name session = filter (is_named name) session
+part_of name session = record session { held = filter (is_named name) session.held }
 
 -- the refusal of a load where as many are held as may be
 abbrev pub is_too_many : Refusal → Bool
@@ -266,8 +286,8 @@ abbrev pub OthersStay : Type 0
 OthersStay =
     (allowed : Limits) (name : List ℕ) (session : Session) (order : OrderLines)
     → is_of name order ≡ false
-    → part_of name (session_after session (answer_within allowed session order))
-    ≡ part_of name session
+    → (part_of name (session_after session (answer_within allowed session order))).held
+    ≡ (part_of name session).held
 
 -- so the presentation that has the name, if one has, is as it was
 abbrev pub PresentationsStay : Type 0
@@ -276,6 +296,27 @@ PresentationsStay =
     → is_of name order ≡ false
     → presentation_of name (session_after session (answer_within allowed session order))
     ≡ presentation_of name session
+
+-- an order that prefers a value is of no name
+abbrev pub PreferringIsOfNone : Type 0
+PreferringIsOfNone =
+    (name : List ℕ) (order : OrderLines)
+    → is_preferring order ≡ true
+    → is_of name order ≡ false
+
+-- it leaves all presentations that are held
+abbrev pub HeldStay : Type 0
+HeldStay =
+    (allowed : Limits) (session : Session) (order : OrderLines)
+    → is_preferring order ≡ true
+    → (session_after session (answer_within allowed session order)).held ≡ session.held
+
+-- and every other order leaves what is preferred
+abbrev pub PreferencesStay : Type 0
+PreferencesStay =
+    (allowed : Limits) (session : Session) (order : OrderLines)
+    → is_preferring order ≡ false
+    → (session_after session (answer_within allowed session order)).wanted ≡ session.wanted
 
 -- an order's answer follows from what the session has of its name,
 -- unless the order is refused since too many are held
@@ -296,27 +337,29 @@ AnswersAreOwn =
     → refuses_as is_too_many (heard (answer_within allowed session order)) ≡ false
     → IsOwn allowed name session order
 
--- the orders of a name
+-- the orders of a name, and those that prefer a value
 abbrev pub own_tried : List ℕ → List OrderAttempt → List OrderAttempt
-own_tried name tried = filter (λ (one : OrderAttempt). is_of name one.order) tried
+own_tried name tried = filter (λ (one : OrderAttempt). concerns name one.order) tried
 
--- the answers to them
+-- the answers to the orders of a name
 abbrev pub own_answered : List ℕ → List AnsweredOrder → List AnsweredOrder
 own_answered name answered = filter (λ (one : AnsweredOrder). is_of name one.order) answered
 
 -- so the answers to the orders of a name, and what is left of it,
--- are those of a session that has these orders alone,
+-- are those of a session that has these orders and those that prefer a value alone,
 -- where none is refused since too many are held; line numbers are aside,
 -- and memory may run out at any order
 pub record IsAlone
     (answering : Answering) (name : List ℕ) (tried : List OrderAttempt) : Type 0 where
   pub answers :
-      own_answered name (answered_by answering tried) ≡ answered_by answering (own_tried name tried)
+      own_answered name (answered_by answering tried)
+      ≡ own_answered name (answered_by answering (own_tried name tried))
   pub session : part_of name (told_by answering tried).session
       ≡ (told_by answering (own_tried name tried)).session
   pub aside : (given : ℕ → ℕ) →
       AllSameBut given (own_answered name (answered_by answering tried))
-      (answered_by answering (map (renumbered_try given) (own_tried name tried)))
+      (own_answered name
+      (answered_by answering (map (renumbered_try given) (own_tried name tried))))
 
 -- for each presentation's name, within any limits
 abbrev pub NamesAreIsolated : Type 0
@@ -327,15 +370,15 @@ NamesAreIsolated =
     → IsAlone (answer_within allowed) name tried
 
 -- so over inputs: the answers to the orders of a name are, line numbers aside,
--- those of the input that has the lines of these orders alone
+-- those of the input that has the lines of these orders and of those that prefer a value alone
 pub record IsAloneInInput
     (answering : Answering) (name : List ℕ) (lines : List (List ℕ)) : Type 0 where
   pub own : List (List ℕ)
-  pub own_is : own ≡ flat_map lines_of (filter (is_of name) (orders lines))
+  pub own_is : own ≡ flat_map lines_of (filter (concerns name) (orders lines))
   pub given : ℕ → ℕ
   pub answers :
       AllSameBut given (own_answered name (answered_by answering (map with_ease (orders lines))))
-      (answered_by answering (map with_ease (orders own)))
+      (own_answered name (answered_by answering (map with_ease (orders own))))
   pub session : part_of name (transcript_by answering (orders lines)).session
       ≡ (transcript_by answering (orders own)).session
 

@@ -1,6 +1,8 @@
 pub mod Cut
 pub mod Session
+pub mod Loading
 pub mod Answers
+pub mod Auditing
 pub mod Transcript
 pub mod Summary
 pub mod Words
@@ -9,3 +11,4 @@ pub mod Houses
 pub mod Running
 pub mod Laws
 pub mod Evaluations
+pub mod AuditInputs

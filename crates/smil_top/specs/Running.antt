@@ -13,11 +13,12 @@ use Rattle.smil_model.specs.shown.Lines.{refusal_line}
 use Rattle.smil_outside.specs.declared.failed.Failed.{Failed}
 use Rattle.smil_outside.specs.Faults.{last_count}
 use Rattle.smil_grammar.specs.declared.read.Read.{Read}
-use Rattle.smil_grammar.specs.declared.read.Read.TheVariants.{Blank, Load, Close, To}
+use Rattle.smil_grammar.specs.declared.read.Read.TheVariants.{Blank, Load, LoadAt, Prefer, Close, To}
 use Rattle.smil_grammar.specs.Results.{◌>>=◌}
 use Rattle.smil_grammar.specs.Scripts.{line_of}
-use Rattle.smil_grammar.specs.Outlines.{Outline, no_lines, line_within, ended, version_of}
+use Rattle.smil_grammar.specs.Outlines.{Outline, ended, version_of}
 use Rattle.smil_report.specs.Words.{checked_line}
+use Rattle.smil_switch.specs.Preferences.{Wanted}
 use Rattle.smil_words.specs.declared.mode.Mode.{Mode}
 use Rattle.smil_words.specs.declared.mode.Mode.TheVariants as mode
 use Rattle.smil_top.specs.declared.answer.Answer.{Answer as AnswerText}
@@ -25,14 +26,16 @@ use Rattle.smil_top.specs.declared.counts.Counts.{Counts}
 use Rattle.smil_top.specs.declared.fault.Fault.{Fault}
 use Rattle.smil_top.specs.declared.loaded.LoadedDoc.{LoadedDoc as GivenDoc}
 use Rattle.smil_top.specs.declared.load.Load.{Load as LoadSoFar}
-use Rattle.smil_top.specs.declared.loaded.NamedOutline.{NamedOutline}
+use Rattle.smil_top.specs.declared.loaded.NamedLines.{NamedLines}
 use Rattle.smil_top.specs.declared.run.Run.{Run}
+use Rattle.smil_top.specs.declared.session.Session.{Session as SessionSoFar}
 use Rattle.smil_top.specs.declared.status.Status.{Status}
 use Rattle.smil_top.specs.declared.status.Status.TheVariants as status
 use Rattle.smil_top.specs.Cut.{NumberedLine, LoadLines, OrderLines, CutLines, unended, orders}
 use Rattle.smil_top.specs.Session.{Session}
-use Rattle.smil_top.specs.Houses.{Presentations, Holds}
-use Rattle.smil_top.specs.Answers.{AcceptedOrder, LoadedDocument, at_line, name_of, outline_from, said_within, silent, loaded_within, checked, outline_in, answer_of, check_of}
+use Rattle.smil_top.specs.Loading.{Loading, unread, loading_within}
+use Rattle.smil_top.specs.Houses.{Keeps}
+use Rattle.smil_top.specs.Answers.{AcceptedOrder, LoadedDocument, LoadHead, at_line, head_of, loading_from, said_within, check_said, loaded_within, checked, outline_in, answer_of, check_of}
 use Rattle.smil_top.specs.Transcript.{Answering, MayAnswer, TranscriptState, IsTranscriptBy, is_memory}
 use Rattle.smil_top.specs.declared.generated.Summary.{Summary}
 use Rattle.smil_top.specs.Summary.{line_count, session_told, summary}
@@ -59,24 +62,32 @@ abbrev pub said : Result (Unit {0}) Fault → AnswerText → List ℕ
 said answered text = text_of (finished answered text)
 
 -- what was made of an order is what is wanted: the text,
--- in a house that holds the session after it; or the refusal, where all is kept,
+-- where the session after it is kept; or the refusal, where all is kept as it was,
 -- unless memory ran out
-abbrev pub Makes : Result (Unit {0}) Refusal → AnswerText → Presentations → Session
+abbrev pub Makes : Result (Unit {0}) Refusal → AnswerText → SessionSoFar → Session
     → Result AcceptedOrder Refusal → Type 0
-Makes (Ok done) text house session wanted =
-    (after : Session) × Holds house after
+Makes (Ok done) text so_far session wanted =
+    (after : Session) × Keeps so_far after
     × (wanted ≡ Ok (record { text = text_of text; session = after }))
-Makes (Err refusal) text house session wanted =
-    Holds house session × IsRefusedBy wanted refusal
+Makes (Err refusal) text so_far session wanted =
+    Keeps so_far session × IsRefusedBy wanted refusal
+
+-- a value is preferred so, unless memory ran out; after a refusal all is kept as it was
+abbrev pub PrefersAs : Result (Unit {0}) Refusal → SessionSoFar → Session
+    → Result Session Refusal → Type 0
+PrefersAs (Ok done) so_far session wanted =
+    (after : Session) × Keeps so_far after × (wanted ≡ Ok after)
+PrefersAs (Err refusal) so_far session wanted =
+    Keeps so_far session × IsRefusedBy wanted refusal
 
 -- the same of a whole order
-abbrev pub MakesAnswer : Result (Unit {0}) Fault → AnswerText → Presentations → Session → Answering
+abbrev pub MakesAnswer : Result (Unit {0}) Fault → AnswerText → SessionSoFar → Session → Answering
     → OrderLines → Type 0
-MakesAnswer (Ok done) text house session answering order =
-    (after : Session) × Holds house after
+MakesAnswer (Ok done) text so_far session answering order =
+    (after : Session) × Keeps so_far after
     × (answering session order ≡ Ok (record { text = text_of text; session = after }))
-MakesAnswer (Err fault) text house session answering order =
-    Holds house session × MayAnswer answering session order (Err fault)
+MakesAnswer (Err fault) text so_far session answering order =
+    Keeps so_far session × MayAnswer answering session order (Err fault)
 
 -- how orders are answered where loads are only read, and where they are opened too
 abbrev pub answering : Bool → Answering
@@ -85,7 +96,7 @@ answering false = answer_of
 
 -- what a line is answered, by what it says
 abbrev pub single_by : Bool → Session → ℕ → Read → Result AcceptedOrder Refusal
-single_by true session number read = silent session
+single_by true session number read = check_said session read
 single_by false session number read = said_within limits session number read
 
 -- what a line is answered
@@ -107,42 +118,48 @@ Checks (Err refusal) text line given = refusal ≡ Memory
 -- a presentation's name is short
 abbrev pub HasShortName : Read → Type 0
 HasShortName (Load name) = length name ≤ NAME_BYTES
+HasShortName (LoadAt name start) = length name ≤ NAME_BYTES
 HasShortName (Close name) = length name ≤ NAME_BYTES
 HasShortName (To name order) = length name ≤ NAME_BYTES
+HasShortName (Prefer word value) = Unit {0}
 HasShortName Blank = Unit {0}
 
 -- ---- loads
 
--- the name and the outline with one more line
-abbrev pub with_node : List ℕ → Outline → NumberedLine → Result (List ℕ × Outline) Fault
-with_node name outline line = do
-  more ← at_line line.number (line_within limits outline line.text)
-  Ok (name, more)
+-- what the load line gave, and the lines with one more
+abbrev pub with_node : LoadHead → Loading → NumberedLine → Result (LoadHead × Loading) Fault
+with_node head loading line = do
+  more ← at_line line.number (loading_within limits head.start loading line.text)
+  Ok (head, more)
 
--- what the lines of a load say before its end
-abbrev pub reading_of : LoadLines → Result (List ℕ × Outline) Fault
-reading_of lines = do
-  name ← at_line lines.head.number (line_of lines.head.text >>= name_of)
-  outline ← outline_from limits no_lines lines.nodes
-  Ok (name, outline)
+-- what the lines of a load say before its end, by these preferences
+abbrev pub reading_of : Wanted → LoadLines → Result (LoadHead × Loading) Fault
+reading_of wanted lines = do
+  head ← at_line lines.head.number (line_of lines.head.text >>= head_of)
+  loading ← loading_from limits head.start (unread wanted) lines.nodes
+  Ok (head, loading)
+
+-- what the load line gave
+abbrev pub head_read : NamedLines → LoadHead
+head_read named = record { name = named.name; start = named.start }
 
 -- what was read is this
-abbrev pub Reads : Result NamedOutline Fault → Result (List ℕ × Outline) Fault → Type 0
-Reads (Ok named) wanted = wanted ≡ Ok (named.name, named.outline)
-Reads (Err fault) wanted = wanted ≡ Err fault
+abbrev pub Reads : Result NamedLines Fault → Result (LoadHead × Loading) Fault → Type 0
+Reads (Ok named) reading = reading ≡ Ok (head_read named, named.lines)
+Reads (Err fault) reading = reading ≡ Err fault
 
--- a load that was read so far, or for which memory ran out
-pub record IsRead (load : LoadSoFar) (lines : LoadLines) : Type 0 where
+-- a load that was read so far by these preferences, or for which memory ran out
+pub record IsRead (load : LoadSoFar) (wanted : Wanted) (lines : LoadLines) : Type 0 where
   pub line : load.line ≡ lines.head.number
   pub reading :
-      Reads load.reading (reading_of lines)
+      Reads load.reading (reading_of wanted lines)
       ⊎ (load.reading ≡ Err (record { line = lines.head.number; refusal = Memory }))
 
--- the name of a load line, before the first node
-abbrev pub ReadsName : Result NamedOutline Refusal → List ℕ → Type 0
-ReadsName (Ok named) head =
-    (line_of head >>= name_of ≡ Ok named.name) × (named.outline ≡ no_lines)
-ReadsName (Err refusal) head = IsRefusedBy (line_of head >>= name_of) refusal
+-- what a load line gives, before the first line behind it
+abbrev pub ReadsHead : Result NamedLines Refusal → Wanted → List ℕ → Type 0
+ReadsHead (Ok named) wanted head =
+    (line_of head >>= head_of ≡ Ok (head_read named)) × (named.lines ≡ unread wanted)
+ReadsHead (Err refusal) wanted head = IsRefusedBy (line_of head >>= head_of) refusal
 
 -- what a load gives
 abbrev pub given_of : GivenDoc → LoadedDocument
@@ -159,11 +176,11 @@ given_at name outline end_line = do
   document ← at_line end_line (ended outline)
   Ok (record { name = name; document = document; version = version_of outline })
 
--- the load that hasn't ended
-abbrev pub IsOpen : Option LoadSoFar → Option LoadLines → Type 0
-IsOpen None None = Unit {0}
-IsOpen (Some load) (Some lines) = IsRead load lines
-IsOpen _ _ = ⊥
+-- the load that hasn't ended, by the preferences that hold
+abbrev pub IsOpen : Option LoadSoFar → Wanted → Option LoadLines → Type 0
+IsOpen None wanted None = Unit {0}
+IsOpen (Some load) wanted (Some lines) = IsRead load wanted lines
+IsOpen _ _ _ = ⊥
 
 -- ---- counts
 
@@ -209,14 +226,14 @@ pub record Tells
     (checks : Bool) (run : Run) (orders : List OrderLines) (told : TranscriptState) : Type 0 where
   pub checks_is : run.session.checks ≡ checks
   pub transcript : IsTranscriptBy (answering checks) orders told
-  pub holds : Holds run.session.house told.session
+  pub keeps : Keeps run.session told.session
   pub counted : AreCounted run.counts orders told
 
 -- a session whose whole orders were answered, and this was told
 pub record IsRunning
     (checks : Bool) (run : Run) (cut : CutLines) (told : TranscriptState) : Type 0 where
   pub tells : Tells checks run cut.whole told
-  pub load : IsOpen run.load cut.«open»
+  pub load : IsOpen run.load told.session.wanted cut.«open»
 
 -- the line that a reader shows, or one that is too long to be shown
 abbrev pub IsLine : Option (List ℕ) → List ℕ → Type 0

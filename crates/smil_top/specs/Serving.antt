@@ -12,6 +12,9 @@ use Rattle.smil_top.specs.Cut.{OrderLines, orders, whole_orders}
 use Rattle.smil_top.specs.Answers.{answer_of, check_of}
 use Rattle.smil_top.specs.Transcript.{Answering, TranscriptState, IsTranscriptBy}
 use Rattle.smil_top.specs.Summary.{session_told, summary}
+use Rattle.smil_top.specs.Auditing.{ReadsAs, TellsOf, audit_input, audit_of, audit_text, audit_status, memory_line}
+use Rattle.smil_top.specs.declared.audit.Told.{Told}
+use Rattle.smil_top.specs.declared.audit.WholeInput.{WholeInput}
 use Rattle.smil_top.specs.Words.{usage_line}
 
 -- how a call ends in which orders were refused for faults or not,
@@ -105,21 +108,74 @@ Explains status.Words text room = text ≡ usage_line
 Explains status.WriteFault text room = IsPart text usage_line room
 Explains _ text room = ⊥
 
+-- ---- a diary is audited
+
+-- an input that was read to its end: what its lines say, or that memory ran out
+pub record IsWholeInput (whole : WholeInput) (before after : Option (List ℕ)) : Type 0 where
+  pub came : List ℕ
+  pub read : Consumes before after came
+  pub at_end : IsAtEnd after
+  pub within : length came ≤ INPUT_BYTES
+  pub said : ReadsAs whole.said (audit_input (lines came))
+  pub lines : whole.lines ≡ length (lines came)
+
+-- what is told of such an input
+pub record Audited (told : Told) (before after : Option (List ℕ)) : Type 0 where
+  pub came : List ℕ
+  pub read : Consumes before after came
+  pub at_end : IsAtEnd after
+  pub within : length came ≤ INPUT_BYTES
+  pub tells : TellsOf told (audit_of (lines came))
+
+-- an audit that stops without a line: a read failed, the input is too long,
+-- or there was no memory to begin with
+abbrev pub StopsBy : Status → List ℕ → Type 0
+StopsBy status.ReadFault came = length came ≤ INPUT_BYTES
+StopsBy status.InputTooLong came = INPUT_BYTES < length came
+StopsBy status.Memory came = came ≡ []
+StopsBy _ came = ⊥
+
+abbrev pub StopsAudit : Status → Option (List ℕ) → Option (List ℕ) → Type 0
+StopsAudit ended before after = (came : List ℕ) × Consumes before after came × StopsBy ended came
+
+-- the whole answer to a whole input, with which an audit ends so
+pub record IsWholeAudit (ended : Status) (came text : List ℕ) : Type 0 where
+  pub text_is : text ≡ audit_text (lines came)
+  pub ended_is : ended ≡ audit_status (lines came)
+  pub within : length came ≤ INPUT_BYTES
+
+-- these bytes came, and this text was written: the one line, once the input was read to its end;
+-- or a part of it; or that memory ran out
+abbrev pub Audits : Status → Option (List ℕ) → List ℕ → List ℕ → ℕ → Type 0
+Audits status.Clean rest came text room = IsAtEnd rest × IsWholeAudit status.Clean came text
+Audits status.Refused rest came text room = IsAtEnd rest × IsWholeAudit status.Refused came text
+Audits status.Words rest came text room = ⊥
+Audits status.ReadFault rest came text room = (length came ≤ INPUT_BYTES) × (text ≡ [])
+Audits status.WriteFault rest came text room =
+    IsAtEnd rest × (length came ≤ INPUT_BYTES)
+    × (IsPart text (audit_text (lines came)) room ⊎ IsPart text memory_line room)
+Audits status.Memory rest came text room =
+    ((came ≡ []) × (text ≡ []))
+    ⊎ (IsAtEnd rest × (length came ≤ INPUT_BYTES) × (text ≡ memory_line))
+Audits status.InputTooLong rest came text room = (INPUT_BYTES < length came) × (text ≡ [])
+
 -- ---- by what the words ask for
 
 -- by the words: the session is run or checked, or that of a number is told of,
--- or the words are faulty
+-- or a diary is audited, or the words are faulty
 abbrev pub ServesBy : Option Mode → Status → Option (List ℕ) → List ℕ → List ℕ → ℕ → Type 0
 ServesBy (Some mode.Run) status rest came text room = Runs answer_of status rest came text room
 ServesBy (Some mode.Check) status rest came text room = Runs check_of status rest came text room
 ServesBy (Some (mode.Gen number)) status rest came text room =
     (came ≡ []) × Generates number status text room
+ServesBy (Some mode.Audit) status rest came text room = Audits status rest came text room
 ServesBy None status rest came text room = (came ≡ []) × Explains status text room
 
--- whether they ask for the session that is read
+-- whether they ask for an input that is read
 abbrev pub reads : Option Mode → Bool
 reads (Some mode.Run) = true
 reads (Some mode.Check) = true
+reads (Some mode.Audit) = true
 reads _ = false
 
 -- what came from the source and went to the sink, where they tell their bytes

@@ -5,7 +5,7 @@ use Rattle.smil_model.specs.declared.order.Refusal.TheVariants.{Memory}
 use Rattle.smil_model.specs.document.Limits.{Limits}
 use Rattle.smil_model.specs.shown.Lines.{refusal_line}
 use Rattle.smil_top.specs.Cut.{OrderLines, first_line}
-use Rattle.smil_top.specs.Session.{Session}
+use Rattle.smil_top.specs.Session.{Session, empty_session}
 use Rattle.smil_top.specs.Answers.{Answer, at_line, answer_within, answer_of, check_of}
 
 -- how orders are answered, if memory suffices
@@ -27,7 +27,7 @@ pub record TranscriptState : Type 0 where
 
 -- before the first order
 abbrev pub untold : TranscriptState
-untold = record { text = []; session = []; refused = 0; memory = false }
+untold = record { text = []; session = empty_session; refused = 0; memory = false }
 
 -- memory ran out
 abbrev pub is_memory : Refusal → Bool

@@ -5,7 +5,7 @@ use Rattle.smil_top.specs.declared.status.Status.TheVariants as status
 
 -- what faulty words are answered
 abbrev pub usage_line : List ℕ
-usage_line = codes "usage: smilplay run | smilplay check | smilplay gen N\n"
+usage_line = codes "usage: smilplay run | smilplay check | smilplay gen N | smilplay audit\n"
 
 -- the number with which the program ends
 abbrev pub exit_number_of : Status → ℕ

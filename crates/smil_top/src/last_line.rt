@@ -1,10 +1,14 @@
 //! The last line of the answer to an order.
 
-ghost use Rattle.std.specs.Prelude.{◌≡◌, ◌≤◌, [], length};
+ghost use Rattle.std.specs.Prelude.{◌≡◌, ◌≤◌, ◌+◌, ◌++◌, [], length};
 ghost use Rattle.smil_model.specs.declared.limits.TheConstants.{NAME_BYTES};
 ghost use Rattle.smil_model.specs.shown.Lines.{closed_line, ok_line, refusal_line};
 ghost use Rattle.smil_report.specs.Words.{checked_line};
+ghost use Rattle.smil_report.specs.declared.last_lines.TheConstants.{LAST_LINE_BYTES as the_most};
+ghost use Rattle.smil_top.specs.Answers.{preferred_line};
+ghost use Rattle.smil_top.specs.Summary.{count_line};
 
+use itoa::Buffer;
 use smil_model::Refusal;
 use smil_report::{LAST_LINE_BYTES, REFUSAL_BYTES, put_checked, put_closed, put_ok, put_refusal};
 use std::marker::Model;
@@ -67,6 +71,37 @@ impl LastLine {
         let mut buf = [0; LAST_LINE_BYTES];
         let len = put_checked(&mut buf, line, name);
         LastLine { buf, len }
+    }
+
+    /// The line of an order at this line that prefers a value.
+    pub fn preferred(line: u32) -> LastLine
+        ensures { result ≡ preferred_line line }
+    {
+        LastLine::checked(line, b"prefer")
+    }
+
+    /// The line of a verdict: a word of at most 3 bytes, and a number.
+    pub fn counted(word: &[u8], number: usize) -> LastLine
+        requires { length word.now ≤ 3 }
+        ensures { result ≡ count_line word.now number }
+    {
+        let mut digits = Buffer::new();
+        let mut line = LastLine::none();
+        line.put(word);
+        line.put(b" ");
+        line.put(digits.format(number).as_bytes());
+        line.put(b"\n");
+        line
+    }
+
+    // Appends bytes, for which there is room.
+    fn put(&mut self, bytes: &[u8])
+        requires { length self.old + length bytes.now ≤ the_most }
+        ensures { self.new ≡ self.old ++ bytes.now }
+    {
+        let end = self.len + bytes.len();
+        self.buf[self.len..end].copy_from_slice(bytes);
+        self.len = end;
     }
 
     /// The line of a refused order, whose fault stands at the line with this number.

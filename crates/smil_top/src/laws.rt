@@ -4,6 +4,7 @@ ghost use Rattle.smil_top.specs.Laws.{TranscriptsAreTold, WhatIsToldIsTranscript
 ghost use Rattle.smil_top.specs.Laws.{ItRunsOutAtNone, TextIsOfAnswers};
 ghost use Rattle.smil_top.specs.Laws.{MemorySuffices, HasTranscript, HasOneTranscript};
 ghost use Rattle.smil_top.specs.Laws.{IsOfOneName, OthersStay, PresentationsStay, AnswersAreOwn};
+ghost use Rattle.smil_top.specs.Laws.{PreferringIsOfNone, HeldStay, PreferencesStay};
 ghost use Rattle.smil_top.specs.Laws.{NamesAreIsolated, NumbersAreAside, OrdersAreCutAgain};
 ghost use Rattle.smil_top.specs.Laws.{InputsAreIsolated, InputsAreCut, TranscriptsHaveFronts};
 ghost use Rattle.smil_top.specs.Laws.{TranscriptsAreCut, AllTranscriptsAreCut, TranscriptsMigrate};
@@ -37,8 +38,16 @@ pub fn answers_are_own()
     ensures { AnswersAreOwn }
 {}
 
-/// The answers to the orders of a name are those of a session with these orders alone, where no
-/// order is refused since too many presentations are held.
+/// A line that prefers a value is of no name and leaves every presentation, and only such a line
+/// changes what is preferred.
+pub fn preferences_are_apart()
+    ensures none { PreferringIsOfNone }
+    ensures held { HeldStay }
+    ensures preferred { PreferencesStay }
+{}
+
+/// The answers to the orders of a name are those of a session with these orders and the lines that
+/// prefer a value alone, where no order is refused since too many presentations are held.
 pub fn names_are_isolated()
     ensures { NamesAreIsolated }
 {}
@@ -55,8 +64,8 @@ pub fn orders_are_cut_again()
 {}
 
 /// The answers to the orders of a name are those of the input that has the lines of these orders
-/// alone, line numbers aside, where memory suffices and no order is refused since too many
-/// presentations are held.
+/// and those that prefer a value alone, line numbers aside, where memory suffices and no order is
+/// refused since too many presentations are held.
 pub fn inputs_are_isolated()
     ensures { InputsAreIsolated }
 {}

@@ -2,6 +2,7 @@
 #![tactic(auto)]
 
 mod answer;
+mod audit;
 mod call;
 mod counts;
 mod fault;
@@ -10,6 +11,7 @@ mod last_line;
 pub mod laws;
 mod load;
 mod loaded;
+mod loading;
 mod nowhere;
 mod reading;
 mod run;

@@ -1,36 +1,40 @@
 //! A load whose lines are being read.
 
 ghost use Rattle.std.specs.Prelude.{◌≡◌, ◌⊎◌, ◌≤◌, ℕ, List, [], ◌∷◌, ◌++◌, length, option_map, Ok, Err, IfOk};
+ghost use Rattle.smil_model.specs.declared.limits.TheConstants.{NAME_BYTES};
 ghost use Rattle.smil_model.specs.document.Limits.{limits};
 ghost use Rattle.smil_model.specs.document.Valid.{IsValid};
+ghost use Rattle.smil_switch.specs.Preferences.{Wanted};
 ghost use Rattle.smil_top.specs.Cut.{LoadLines};
 ghost use Rattle.smil_top.specs.Answers.{given_within};
-ghost use Rattle.smil_top.specs.Running.{Gives, IsRead, IsLine, Reads, ReadsName, given_at, with_node};
+ghost use Rattle.smil_top.specs.Loading.{unread};
+ghost use Rattle.smil_top.specs.Running.{Gives, IsRead, IsLine, Reads, ReadsHead, given_at, head_read, with_node};
 
 use super::fault::Fault;
-use super::loaded::{LoadedDoc, NamedOutline};
+use super::loaded::{LoadedDoc, NamedLines};
+use super::loading::Loading;
 use smil_grammar::Read;
-use smil_model::Refusal;
-use smil_outline::Builder;
+use smil_model::{Bytes, Refusal};
 use smil_outside::LINE_BYTES;
 use smil_script::read_line;
-use std::alloc::Global;
+use smil_switch::Preferences;
+use std::alloc::{AllocError, Global};
 
 /// A load: the number of its first line, and what its lines say so far, or their first fault.
 #[derive(Drop)]
 pub(crate) struct Load {
     pub line: u32,
-    pub reading: Result<NamedOutline, Fault>,
+    pub reading: Result<NamedLines, Fault>,
 }
 
 impl Load {
-    /// A load that this line opens.
-    pub fn open(alloc: Global, line: u32, head: &[u8]) -> Load
+    /// A load that this line opens, whose lines are chosen by these preferences.
+    pub fn open(alloc: Global, line: u32, head: &[u8], preferences: &Preferences) -> Load
         requires { length head.now ≤ LINE_BYTES }
-        ensures { IsRead result (record
+        ensures { IsRead result preferences.now (record
             { head = record { number = line; text = head.now }; nodes = [] }) }
     {
-        let reading = match read_name(alloc, head) {
+        let reading = match read_head(alloc, head, preferences) {
             Ok(named) => Ok(named),
             Err(refusal) => Err(Fault { line, refusal }),
         };
@@ -39,9 +43,9 @@ impl Load {
 
     /// Reads one more line, or one that is too long.
     pub fn push(self, line: u32, text: Option<&[u8]>) -> Load
-        ensures { (lines : LoadLines) (node : List ℕ) → IsRead self lines
+        ensures { (wanted : Wanted) (lines : LoadLines) (node : List ℕ) → IsRead self wanted lines
             → IsLine (option_map (λ t. t.now) text.entry) node
-            → IsRead result (record lines {
+            → IsRead result wanted (record lines {
               nodes = lines.nodes
                   ++ record { number = line; text = node } ∷ [];
             }) }
@@ -60,8 +64,8 @@ impl Load {
     /// What the load gives, or the first fault, at its end.
     pub fn finish(self, end_line: u32) -> Result<LoadedDoc, Fault>
         ensures valid { IfOk result (λ given. IsValid given.doc) }
-        ensures given { (lines : LoadLines) → IsRead self lines
-            → Gives result (given_within limits lines end_line)
+        ensures given { (wanted : Wanted) (lines : LoadLines) → IsRead self wanted lines
+            → Gives result (given_within limits wanted lines end_line)
             ⊎ (result ≡ Err (record { line = lines.head.number; refusal = Refusal.Memory })) }
     {
         let first = self.line;
@@ -72,16 +76,29 @@ impl Load {
     }
 }
 
-// The name that a load line gives, and an outline without a node.
-fn read_name(alloc: Global, head: &[u8]) -> Result<NamedOutline, Refusal>
+// A load of this name before its first line.
+fn named(
+    alloc: Global,
+    name: Bytes,
+    start: Option<i64>,
+    preferences: &Preferences,
+) -> Result<NamedLines, AllocError>
+    requires { length name ≤ NAME_BYTES }
+    ensures { IfOk result (λ named. (head_read named ≡ record { name = name; start = start })
+        × (named.lines ≡ unread preferences.now)) }
+{
+    let lines = Loading::new(alloc, preferences)?;
+    Ok(NamedLines { name, start, lines })
+}
+
+// What a load line gives, before the first line behind it.
+fn read_head(alloc: Global, head: &[u8], preferences: &Preferences) -> Result<NamedLines, Refusal>
     requires { length head.now ≤ LINE_BYTES }
-    ensures { ReadsName result head.now }
+    ensures { ReadsHead result preferences.now head.now }
 {
     match read_line(alloc, head) {
-        Ok(Read::Load { name }) => {
-            let outline = Builder::new(alloc)?;
-            Ok(NamedOutline { name, outline })
-        }
+        Ok(Read::Load { name }) => Ok(named(alloc, name, None, preferences)?),
+        Ok(Read::LoadAt { name, start }) => Ok(named(alloc, name, Some(start), preferences)?),
         Ok(_) => Err(Refusal::NotACommand),
         Err(refusal) => Err(refusal),
     }
@@ -90,18 +107,19 @@ fn read_name(alloc: Global, head: &[u8]) -> Result<NamedOutline, Refusal>
 // One more node line. Its fault stands at its number, or at the load's first line where memory ran
 // out.
 fn push_node(
-    mut so_far: NamedOutline,
+    mut so_far: NamedLines,
     first: u32,
     line: u32,
     text: Option<&[u8]>,
-) -> Result<NamedOutline, Fault>
+) -> Result<NamedLines, Fault>
     ensures { (node : List ℕ) → IsLine (option_map (λ t. t.now) text.entry) node
-        → Reads result (with_node so_far.name so_far.outline
+        → Reads result (with_node (head_read so_far) so_far.lines
         (record { number = line; text = node }))
         ⊎ (result ≡ Err (record { line = first; refusal = Refusal.Memory })) }
 {
+    let start = so_far.start;
     let pushed = match text {
-        Some(text) => so_far.outline.push(text),
+        Some(text) => so_far.lines.push(start, text),
         None => Err(Refusal::LongLine),
     };
     match pushed {
@@ -115,14 +133,14 @@ fn push_node(
 }
 
 // The document of an outline whose load begins and ends at these lines.
-fn end_outline(named: NamedOutline, first: u32, end_line: u32) -> Result<LoadedDoc, Fault>
+fn end_outline(named: NamedLines, first: u32, end_line: u32) -> Result<LoadedDoc, Fault>
     ensures valid { IfOk result (λ given. IsValid given.doc) }
-    ensures given { Gives result (given_at named.name named.outline end_line)
+    ensures given { Gives result (given_at named.name named.lines.outline end_line)
         ⊎ (result ≡ Err (record { line = first; refusal = Refusal.Memory })) }
 {
-    let NamedOutline { name, outline } = named;
-    let version = outline.version();
-    match outline.finish() {
+    let NamedLines { name, lines, .. } = named;
+    let version = lines.version();
+    match lines.finish() {
         Ok(doc) => Ok(LoadedDoc { name, doc, version }),
         Err(Refusal::Memory) => Err(Fault {
             line: first,

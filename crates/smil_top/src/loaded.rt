@@ -3,14 +3,16 @@
 ghost use Rattle.std.specs.Prelude.{◌≤◌, length};
 ghost use Rattle.smil_model.specs.declared.limits.TheConstants.{NAME_BYTES};
 
+use super::loading::Loading;
 use smil_model::{Bytes, Doc};
-use smil_outline::Builder;
 
-/// A presentation's name, and its outline so far.
+/// A presentation's name, the instant of its moment 0 where its load gives one, and the load's
+/// lines so far.
 #[derive(Drop)]
-pub(crate) struct NamedOutline {
+pub(crate) struct NamedLines {
     pub name: Bytes,
-    pub outline: Builder,
+    pub start: Option<i64>,
+    pub lines: Loading,
     ghost short: { length name ≤ NAME_BYTES },
 }
 

@@ -6,7 +6,7 @@ ghost use Rattle.smil_top.specs.Cut.{CutLines, LoadLines, OrderLines, single, lo
 ghost use Rattle.smil_top.specs.Session.{Session as Presentations};
 ghost use Rattle.smil_top.specs.Summary.{line_count};
 ghost use Rattle.smil_top.specs.Transcript.{TranscriptState, untold};
-ghost use Rattle.smil_top.specs.Houses.{Holds};
+ghost use Rattle.smil_top.specs.Houses.{Keeps};
 ghost use Rattle.smil_top.specs.Evaluations.{Bound, number_of};
 ghost use Rattle.smil_top.specs.Running.{answering, with_order, said, Answers, AnswersOrders, EvaluatesOn, IsOrderCounted, IsRead, IsRunning, IsLine, MakesAnswer, Tells, Writes};
 
@@ -91,9 +91,9 @@ impl Run {
         requires short { IfSome next.now.text (λ t. length t.now ≤ LINE_BYTES) }
         requires outside { self.old.load ≡ None }
         ensures answers { (checks : Bool) (cut : CutLines) (lines : LoadLines)
-            (told : TranscriptState) (line : List ℕ) → cut.«open» ≡ Some lines → IsRead load lines
-            → Tells checks self.old cut.whole told → next.now.number ≡ suc cut.count
-            → IsLine (option_map (λ t. t.now) next.now.text) line
+            (told : TranscriptState) (line : List ℕ) → cut.«open» ≡ Some lines
+            → IsRead load told.session.wanted lines → Tells checks self.old cut.whole told
+            → next.now.number ≡ suc cut.count → IsLine (option_map (λ t. t.now) next.now.text) line
             → Answers checks result self.new (with_line cut line) told (K.taken sink.old)
             (K.taken sink.new) (K.sure_room sink.old) (K.sure_room sink.new) }
         ensures cause { OnErr result (HasRisen (K.faults sink.old) (K.faults sink.new)) }
@@ -101,7 +101,7 @@ impl Run {
         ensures counted { steps.old ≤ steps.new }
         ensures evaluated { (cut : CutLines) (lines : LoadLines) (told : TranscriptState)
             (line : List ℕ) → cut.«open» ≡ Some lines
-            → IsRead load lines → Tells false self.old cut.whole told
+            → IsRead load told.session.wanted lines → Tells false self.old cut.whole told
             → next.now.number ≡ suc cut.count → IsLine (option_map (λ t. t.now) next.now.text) line
             → EvaluatesOn self.old.counts self.new.counts cut.whole (with_line cut line).whole
             steps.old steps.new }
@@ -153,7 +153,12 @@ impl Run {
                 sink,
             ),
             Some(text) if opens_load(text) => {
-                self.load = Some(Load::open(self.session.alloc, next.number, text));
+                self.load = Some(Load::open(
+                    self.session.alloc,
+                    next.number,
+                    text,
+                    &self.session.preferences,
+                ));
                 Ok(())
             }
             Some(text) if is_blank(text) => Ok(()),
@@ -201,7 +206,8 @@ impl Run {
         steps: &mut Steps<L>,
     ) -> Result<(), Failed>
         ensures answers { (checks : Bool) (whole : List OrderLines) (lines : LoadLines)
-            (told : TranscriptState) → IsRead load lines → Tells checks self.old whole told
+            (told : TranscriptState)
+            → IsRead load told.session.wanted lines → Tells checks self.old whole told
             → AnswersOrders checks result self.new (whole ++ load_order lines (Some number) ∷ [])
             told
             (K.taken sink.old) (K.taken sink.new) (K.sure_room sink.old) (K.sure_room sink.new) }
@@ -210,7 +216,7 @@ impl Run {
         ensures count { K.faults sink.old ≤ K.faults sink.new }
         ensures counted { steps.old ≤ steps.new }
         ensures evaluated { (whole : List OrderLines) (lines : LoadLines) (told : TranscriptState)
-            → IsRead load lines
+            → IsRead load told.session.wanted lines
             → Tells false self.old whole told
             → EvaluatesOn self.old.counts self.new.counts
             whole (whole ++ load_order lines (Some number) ∷ []) steps.old steps.new }
@@ -227,16 +233,16 @@ impl Run {
         steps: &mut Steps<L>,
     ) -> Result<(), Fault>
         ensures answer { (session : Presentations) (lines : LoadLines)
-            → Holds self.old.session.house session → IsRead load lines
-            → MakesAnswer result self.new.answer self.new.session.house session
+            → Keeps self.old.session session → IsRead load session.wanted lines
+            → MakesAnswer result self.new.answer self.new.session session
             (answering self.old.session.checks) (load_order lines (Some number)) }
         ensures checks { self.new.session.checks ≡ self.old.session.checks }
         ensures load { self.new.load ≡ self.old.load }
         ensures counts { self.new.counts ≡ self.old.counts }
         ensures counted { steps.old ≤ steps.new }
         ensures evaluated { (session : Presentations) (lines : LoadLines)
-            → Holds self.old.session.house session
-            → IsRead load lines → self.old.session.checks ≡ false
+            → Keeps self.old.session session
+            → IsRead load session.wanted lines → self.old.session.checks ≡ false
             → IsOrderCounted result (λ (bound : Bound). number_of bound session
             (load_order lines (Some number)))
             (steps.new - steps.old) }

@@ -1,4 +1,4 @@
-//! The presentations that are held, and the answers to orders.
+//! The presentations that are held, what is preferred, and the answers to orders.
 
 ghost use Rattle.std.specs.Prelude.{◌≡◌, ◌≤◌, ◌-◌, ℕ, [], length, false, IfOk};
 ghost use Rattle.smil_model.specs.declared.limits.TheConstants.{NAME_BYTES};
@@ -7,10 +7,11 @@ ghost use Rattle.smil_model.specs.document.Valid.{IsValid};
 ghost use Rattle.smil_model.specs.shown.Answers.{IsGiven};
 ghost use Rattle.smil_script.specs.Gives.{HoldsGiven};
 ghost use Rattle.smil_top.specs.Session.{Session as Presentations};
-ghost use Rattle.smil_top.specs.Answers.{checked, close_answer, loaded_within, ordered_within};
+ghost use Rattle.smil_switch.specs.Preferences.{at_first};
+ghost use Rattle.smil_top.specs.Answers.{check_said, checked, close_answer, loaded_within, ordered_within, preferring};
 ghost use Rattle.smil_top.specs.Evaluations.{Bound, line_number, loaded_number, ordered_number, said_number};
-ghost use Rattle.smil_top.specs.Houses.{Holds};
-ghost use Rattle.smil_top.specs.Running.{given_of, line_by, load_by, no_text, single_by, Checks, HasShortName, IsCounted, Makes};
+ghost use Rattle.smil_top.specs.Houses.{Keeps};
+ghost use Rattle.smil_top.specs.Running.{given_of, line_by, load_by, no_text, single_by, Checks, HasShortName, IsCounted, Makes, PrefersAs};
 
 use super::answer::Answer;
 use super::last_line::LastLine;
@@ -22,13 +23,16 @@ use smil_model::{Bytes, Order, Refusal, Steps};
 use smil_outline::{write_doc, write_doc_2};
 use smil_outside::LINE_BYTES;
 use smil_script::read_line;
+use smil_switch::Preferences;
 use std::alloc::{AllocError, Global};
 use std::sync::ledger::Ledger;
 
-/// The presentations that are held, whether loads are only read, and where memory is taken.
+/// The presentations that are held, what is preferred in loads, whether loads are only read, and
+/// where memory is taken.
 #[derive(Drop)]
 pub(crate) struct Session {
     pub house: House<Presentation>,
+    pub preferences: Preferences,
     pub checks: bool,
     pub alloc: Global,
 }
@@ -41,13 +45,20 @@ struct NamedOrder<'a> {
 }
 
 impl Session {
-    /// No presentation, with room for all that may be held; unless memory runs out.
+    /// No presentation, with room for all that may be held, and the first preferences; unless
+    /// memory runs out.
     pub fn new(alloc: Global, checks: bool) -> Result<Session, AllocError>
         ensures { IfOk result
-            (λ session. session ≡ record { house = []; checks = checks; alloc = alloc }) }
+            (λ session. session ≡ record {
+              house = [];
+              preferences = at_first;
+              checks = checks;
+              alloc = alloc;
+            }) }
     {
         Ok(Session {
             house: House::new(alloc)?,
+            preferences: Preferences::new(alloc)?,
             checks,
             alloc,
         })
@@ -64,12 +75,12 @@ impl Session {
     ) -> Result<(), Refusal>
         requires short { length line.now ≤ LINE_BYTES }
         requires empty { answer.old ≡ no_text }
-        ensures answer { (session : Presentations) → Holds self.old.house session
-            → Makes result answer.new self.new.house session
+        ensures answer { (session : Presentations) → Keeps self.old session
+            → Makes result answer.new self.new session
             (line_by self.old.checks session number line.now) }
         ensures checks { self.new.checks ≡ self.old.checks }
         ensures counted { steps.old ≤ steps.new }
-        ensures evaluated { (session : Presentations) → Holds self.old.house session
+        ensures evaluated { (session : Presentations) → Keeps self.old session
             → self.old.checks ≡ false
             → IsCounted result (λ (bound : Bound). line_number bound session line.now)
             (steps.new - steps.old) }
@@ -89,27 +100,58 @@ impl Session {
         requires given { HoldsGiven read.now }
         requires name { HasShortName read.now }
         requires empty { answer.old ≡ no_text }
-        ensures answer { (session : Presentations) → Holds self.old.house session
-            → Makes result answer.new self.new.house session
+        ensures answer { (session : Presentations) → Keeps self.old session
+            → Makes result answer.new self.new session
             (single_by self.old.checks session number read.now) }
         ensures checks { self.new.checks ≡ self.old.checks }
         ensures counted { steps.old ≤ steps.new }
-        ensures evaluated { (session : Presentations) → Holds self.old.house session
+        ensures evaluated { (session : Presentations) → Keeps self.old session
             → self.old.checks ≡ false
             → IsCounted result (λ (bound : Bound). said_number bound session read.now)
             (steps.new - steps.old) }
     {
         if self.checks {
-            return Ok(());
+            return self.check_read(read);
         }
         match read {
             Read::Blank => Ok(()),
-            Read::Load { .. } => Err(Refusal::NotACommand),
+            Read::Load { .. } | Read::LoadAt { .. } => Err(Refusal::NotACommand),
+            Read::Prefer { word, value } => {
+                self.prefer(word, value)?;
+                answer.last = LastLine::preferred(number);
+                Ok(())
+            }
             Read::Close { name } => self.close(number, name, answer),
             Read::To { name, order } => {
                 let named = NamedOrder { name, order };
                 self.answer_to(number, &named, answer, steps)
             }
+        }
+    }
+
+    // Answers a line by what it says, where loads are only read: it has no text; a value is
+    // preferred all the same.
+    fn check_read(&mut self, read: &Read) -> Result<(), Refusal>
+        ensures answer { (session : Presentations) → Keeps self.old session
+            → Makes result no_text self.new session (check_said session read.now) }
+        ensures checks { self.new.checks ≡ self.old.checks }
+    {
+        match read {
+            Read::Prefer { word, value } => self.prefer(word, value),
+            _ => Ok(()),
+        }
+    }
+
+    // Prefers a value for a word; after a refusal the session is as before.
+    fn prefer(&mut self, word: &Bytes, value: &Bytes) -> Result<(), Refusal>
+        ensures preferring { (session : Presentations) → Keeps self.old session
+            → PrefersAs result self.new session (preferring session word.now value.now) }
+        ensures checks { self.new.checks ≡ self.old.checks }
+    {
+        if self.preferences.prefer(word.slice(), value.slice())? {
+            Ok(())
+        } else {
+            Err(Refusal::NotACommand)
         }
     }
 
@@ -124,12 +166,12 @@ impl Session {
         requires given { IsGiven named.now.order.now }
         requires name { length named.now.name.now ≤ NAME_BYTES }
         requires empty { answer.old ≡ no_text }
-        ensures answer { (session : Presentations) → Holds self.old.house session
-            → Makes result answer.new self.new.house session
+        ensures answer { (session : Presentations) → Keeps self.old session
+            → Makes result answer.new self.new session
             (ordered_within limits session number named.now.name.now named.now.order.now) }
         ensures checks { self.new.checks ≡ self.old.checks }
         ensures counted { steps.old ≤ steps.new }
-        ensures evaluated { (session : Presentations) → Holds self.old.house session
+        ensures evaluated { (session : Presentations) → Keeps self.old session
             → IsCounted result (λ (bound : Bound). ordered_number bound session
             named.now.name.now named.now.order.now)
             (steps.new - steps.old) }
@@ -146,8 +188,8 @@ impl Session {
     fn close(&mut self, number: u32, name: &Bytes, answer: &mut Answer) -> Result<(), Refusal>
         requires name { length name.now ≤ NAME_BYTES }
         requires empty { answer.old ≡ no_text }
-        ensures answer { (session : Presentations) → Holds self.old.house session
-            → Makes result answer.new self.new.house session
+        ensures answer { (session : Presentations) → Keeps self.old session
+            → Makes result answer.new self.new session
             (close_answer session number name.now) }
         ensures checks { self.new.checks ≡ self.old.checks }
     {
@@ -167,12 +209,12 @@ impl Session {
     ) -> Result<(), Refusal>
         requires valid { IsValid given.doc }
         requires empty { answer.old ≡ no_text }
-        ensures answer { (session : Presentations) → Holds self.old.house session
-            → Makes result answer.new self.new.house session
+        ensures answer { (session : Presentations) → Keeps self.old session
+            → Makes result answer.new self.new session
             (load_by self.old.checks session number (given_of given)) }
         ensures checks { self.new.checks ≡ self.old.checks }
         ensures counted { steps.old ≤ steps.new }
-        ensures evaluated { (session : Presentations) → Holds self.old.house session
+        ensures evaluated { (session : Presentations) → Keeps self.old session
             → self.old.checks ≡ false
             → IsCounted result (λ (bound : Bound). loaded_number bound session (given_of given))
             (steps.new - steps.old) }
@@ -194,12 +236,12 @@ impl Session {
     ) -> Result<(), Refusal>
         requires valid { IsValid given.doc }
         requires empty { answer.old ≡ no_text }
-        ensures answer { (session : Presentations) → Holds self.old.house session
-            → Makes result answer.new self.new.house session
+        ensures answer { (session : Presentations) → Keeps self.old session
+            → Makes result answer.new self.new session
             (loaded_within limits session number (given_of given)) }
         ensures checks { self.new.checks ≡ self.old.checks }
         ensures counted { steps.old ≤ steps.new }
-        ensures evaluated { (session : Presentations) → Holds self.old.house session
+        ensures evaluated { (session : Presentations) → Keeps self.old session
             → IsCounted result (λ (bound : Bound). loaded_number bound session (given_of given))
             (steps.new - steps.old) }
     {

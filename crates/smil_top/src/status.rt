@@ -6,9 +6,11 @@ ghost use Rattle.smil_top.specs.Words.{exit_number_of, is_told as is_told_by};
 /// How a call of `serve` ended.
 #[derive(Clone, Copy)]
 pub enum Status {
-    /// The input, where one is read, was read to its end, and every order was accepted.
+    /// The input, where one is read, was read to its end, and every order was accepted; or its
+    /// diary is right.
     Clean,
-    /// The input, where one is read, was read to its end, and an order was refused.
+    /// The input, where one is read, was read to its end, and an order was refused; or its diary is
+    /// wrong, or a line of an audit faulty.
     Refused,
     /// The words are none that the program knows.
     Words,
@@ -17,7 +19,7 @@ pub enum Status {
     /// A write failed.
     WriteFault,
     /// There was no memory to begin with, or an order was refused since memory ran out; or memory
-    /// ran out with `gen`.
+    /// ran out with `gen` or `audit`.
     Memory,
     /// The input is longer than the limit.
     InputTooLong,

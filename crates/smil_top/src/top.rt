@@ -8,6 +8,7 @@ ghost use Rattle.smil_top.specs.Evaluations.{Evaluates};
 ghost use Rattle.smil_top.specs.Running.{asked_by};
 ghost use Rattle.smil_top.specs.Serving.{Explains, Generates, Serves, reads};
 
+use super::audit::told_of;
 use super::generated::summary_of;
 use super::reading::Opening;
 use super::status::Status;
@@ -18,7 +19,7 @@ use std::alloc::Global;
 use std::sync::ledger::Ledger;
 
 // What faulty words are answered.
-const USAGE: &[u8] = b"usage: smilplay run | smilplay check | smilplay gen N\n";
+const USAGE: &[u8] = b"usage: smilplay run | smilplay check | smilplay gen N | smilplay audit\n";
 
 // What a session begins with: where it takes memory, and whether its loads are only read.
 #[derive(Drop)]
@@ -32,21 +33,27 @@ struct Setup {
 /// `run` reads a session's lines to the end of the input, and writes its transcript: the answer to
 /// each order is made whole and then written. `check` does the same with loads that are only read:
 /// each is answered by its canonical outline, in the version in which it came; other lines are
-/// answered only where they can't be read. `gen N` reads nothing, answers the session that the
-/// number makes, and writes how many orders it has, how many were refused, how many lines the
-/// transcript has, and the moment at its end. Any other words write the usage line and answer
-/// `Words`.
+/// answered only where they are refused, and a value is preferred as in `run`. `gen N` reads
+/// nothing, answers the session that the number makes, and writes how many orders it has, how many
+/// were refused, how many lines the transcript has, and the moment at its end. `audit` reads a
+/// document with its diary and its last moment to the end of the input, and writes one line: `yes`
+/// and how many entries there are where the diary is the one that the document and its log are
+/// resolved to by then, `no` and the first place that is wrong, or the first fault. Any other words
+/// write the usage line and answer `Words`.
 ///
 /// The answer is `Clean`, or `Refused` where an order was refused, or `Memory` where one was
 /// refused since memory ran out. Where a read fails or the input is longer than `INPUT_BYTES`, the
 /// orders that were whole before it were answered; where a write fails, a part of the transcript
 /// was written. `Memory` also comes where there is none to begin with, and then nothing was read
 /// and nothing written; and with `gen N` wherever memory runs out, and then nothing was written.
+/// With `audit` it is `Clean` exactly with `yes`, `Refused` with `no` or a fault, and `Memory`
+/// where memory ran out, which is written at line 1; where a read fails or the input is too long
+/// nothing is written.
 ///
 /// Where `run` answers `Clean` or `Refused` and no order was refused as `DiaryFull`, the count of
 /// evaluations rises by at least the sum of the least numbers of the orders, and by at most the sum
-/// of their greatest, each by the state in which the order is answered; a refused order, a close
-/// and a blank line have 0.
+/// of their greatest, each by the state in which the order is answered; a refused order, a close, a
+/// preference and a blank line have 0.
 pub fn serve<S: Source, K: Sink, L: Ledger>(
     alloc: Global,
     words: &WordList,
@@ -58,7 +65,7 @@ pub fn serve<S: Source, K: Sink, L: Ledger>(
     ensures serves { Serves (mode_of words.now) result (S.rest source.old) (S.rest source.new)
         (K.taken sink.old) (K.taken sink.new) (K.sure_room sink.old) }
 
-    // Only `run` and `check` read.
+    // Only `run`, `check` and `audit` read.
     ensures unread { reads (mode_of words.now) ≡ false → source.new ≡ source.old }
 
     // Faults come from the source and the sink alone.
@@ -85,6 +92,7 @@ pub fn serve<S: Source, K: Sink, L: Ledger>(
             session(Setup { alloc, checks }, source, sink, steps)
         }
         Ok(Mode::Gen(number)) => generated(alloc, number, sink, steps),
+        Ok(Mode::Audit) => audited(alloc, source, sink, steps),
         Err(_) => explain(sink),
     }
 }
@@ -99,6 +107,34 @@ fn explain<K: Sink>(sink: &mut K) -> Status
 {
     match write_all(sink, USAGE) {
         Ok(()) => Status::Words,
+        Err(_) => Status::WriteFault,
+    }
+}
+
+// Reads a diary with its document and its last moment, and writes the first fault or the verdict.
+fn audited<S: Source, K: Sink, L: Ledger>(
+    alloc: Global,
+    source: &mut S,
+    sink: &mut K,
+    steps: &mut Steps<L>,
+) -> Status
+    ensures serves { Serves (Some Mode.Audit) result (S.rest source.old) (S.rest source.new)
+        (K.taken sink.old) (K.taken sink.new) (K.sure_room sink.old) }
+    ensures read_cause { result ≡ Status.ReadFault
+        → HasRisen (S.faults source.old) (S.faults source.new) }
+    ensures write_cause { result ≡ Status.WriteFault
+        → HasRisen (K.faults sink.old) (K.faults sink.new) }
+    ensures read_count { S.faults source.old ≤ S.faults source.new }
+    ensures write_count { K.faults sink.old ≤ K.faults sink.new }
+    ensures sure { S.never_fails source.old → result ≢ Status.ReadFault }
+    ensures counted { steps.old ≤ steps.new }
+{
+    let told = match told_of(alloc, source, steps) {
+        Ok(told) => told,
+        Err(status) => return status,
+    };
+    match write_all(sink, told.line.slice()) {
+        Ok(()) => told.status,
         Err(_) => Status::WriteFault,
     }
 }

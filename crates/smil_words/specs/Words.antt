@@ -3,7 +3,7 @@ use Rattle.std.specs.Prelude.{ℕ, List, [], ◌∷◌, length, Option, Some, No
 use Rattle.smil_grammar.specs.Numbers.{number_of}
 use Rattle.smil_grammar.specs.Texts.{◌>>=◌, zero_digit}
 use Rattle.smil_words.specs.declared.mode.Mode.{Mode}
-use Rattle.smil_words.specs.declared.mode.Mode.TheVariants.{Run, Check, Gen}
+use Rattle.smil_words.specs.declared.mode.Mode.TheVariants.{Run, Check, Gen, Audit}
 use Rattle.smil_words.specs.declared.mode.TheConstants.{SESSIONS, SESSION_DIGITS}
 
 -- a number of a session
@@ -17,10 +17,11 @@ session_number (b ∷ bytes) =
     if b == zero_digit then None else (if nat_le (length (b ∷ bytes)) SESSION_DIGITS
     then number_of (b ∷ bytes) >>= in_range else None)
 
--- `run` or `check`
+-- `run`, `check` or `audit`
 abbrev pub of_one : List ℕ → Option Mode
 of_one word = if bytes_eq word (codes "run") then Some Run
-    else (if bytes_eq word (codes "check") then Some Check else None)
+    else (if bytes_eq word (codes "check") then Some Check
+    else (if bytes_eq word (codes "audit") then Some Audit else None))
 
 -- `gen` and a number
 abbrev pub of_two : List ℕ → List ℕ → Option Mode

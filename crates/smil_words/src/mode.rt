@@ -23,14 +23,16 @@ pub enum Mode {
     Check,
     /// Run the session of this number, from 1 to `SESSIONS`.
     Gen(u32),
+    /// Tell whether a diary is that of its document and its log.
+    Audit,
 }
 
 /// The words are none that the program knows.
 #[derive(Clone, Copy)]
 pub struct Words;
 
-/// What the words ask for: exactly `run`, `check`, or `gen` and a number from 1 to `SESSIONS`, of
-/// digits without a leading 0. Any other words are refused. It takes no memory.
+/// What the words ask for: exactly `run`, `check`, `audit`, or `gen` and a number from 1 to
+/// `SESSIONS`, of digits without a leading 0. Any other words are refused. It takes no memory.
 pub fn read_words(words: &WordList) -> Result<Mode, Words>
     ensures { result_ok result ≡ mode_of words.now }
 {
@@ -50,6 +52,8 @@ fn of_one(word: &[u8]) -> Option<Mode>
         Some(Mode::Run)
     } else if is(word, b"check") {
         Some(Mode::Check)
+    } else if is(word, b"audit") {
+        Some(Mode::Audit)
     } else {
         None
     }

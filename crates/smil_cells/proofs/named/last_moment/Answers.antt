@@ -7,7 +7,7 @@ use Rattle.smil_model.specs.declared.times.TheConstants.{HORIZON}
 use Rattle.smil_model.specs.diary.Diary.{last_moment}
 use Rattle.smil_stretch.proofs.Moments.{timed_of}
 use Rattle.smil_past.specs.Past.{history_of}
-use Rattle.smil_cells.proofs.Grown.{fits}
+use Rattle.smil_rounds.proofs.Moments.{fits}
 use Rattle.smil_cells.proofs.Parting.{last_at, none_last}
 use Rattle.smil_model.proofs.Orders.{le_from}
 use Rattle.smil_cells.proofs.named.last_moment.Goals as goal

@@ -3,7 +3,7 @@ use Rattle.std.specs.Prelude.{is_some}
 use Rattle.std.proofs.lemmas.List.{length-map, take_all}
 use Rattle.smil_model.specs.declared.interval.ChildEnd.{ChildEnd}
 use Rattle.smil_model.specs.document.Document.{elements, time_children}
-use Rattle.smil_cells.specs.Rows.{row_without}
+use Rattle.smil_rounds.specs.Rows.{row_without}
 use Rattle.smil_nodes.specs.Endings.{named_end, named_ends}
 use Rattle.smil_nodes.proofs.Housing.{ends_next, few_children, rowed_in, rows_count}
 use Rattle.smil_nodes.proofs.endings.ends_of.Goals as goal

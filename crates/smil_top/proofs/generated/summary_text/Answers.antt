@@ -17,7 +17,7 @@ returns c orders told tells =
     let moment_is : c.unsigned_abs.result ≡ moment =
     c.unsigned_abs.ensures.value
     ∙ ap nat_abs (now ∙ c.unwrap_or-moment.ensures ∙ ap (λ o. unwrap_or o (pos 0)) c.moment.ensures)
-    ∙ moment-held (codes "g") c.args.run.now.session.house told.session tells.holds
+    ∙ moment-held (codes "g") c.args.run.now.session.house told.session tells.keeps.held
     in
     let same : count_lines c.from.result counts.orders counts.refused counts.lines c.unsigned_abs.result ≡ told_of c.args.number orders told =
     ap (λ n. count_lines n counts.orders counts.refused counts.lines c.unsigned_abs.result) c.from.ensures

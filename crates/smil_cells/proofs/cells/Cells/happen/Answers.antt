@@ -14,11 +14,14 @@ use Rattle.smil_model.specs.declared.limits.TheConstants as limits
 use Rattle.smil_element.specs.declared.happening.change.DueChange.{DueChange as AnyDueChange}
 use Rattle.smil_element.specs.Parts.{coming_meant, meant}
 use Rattle.smil_element.proofs.Latest.{present_fits}
-use Rattle.smil_cells.specs.CellsState.{CellsState, IsFront, IsNext, IsRefusing, MayAppendAll, WhereTold, first_at, fresh_since}
+use Rattle.smil_cells.specs.CellsState.{CellsState, IsFront, IsNext, IsRefusing, WhereTold, first_at, fresh_since}
+use Rattle.smil_rounds.specs.Appended.{MayAppendAll}
 use Rattle.smil_cells.specs.Standings.{IsSound, IsSoundUnderMark, standing_of}
 use Rattle.smil_cells.proofs.Refusals.{refused_by}
 use Rattle.smil_cells.proofs.Longer.{kept, refusing, with_entries}
-use Rattle.smil_cells.proofs.Grown.{ComesNext, all_now, came_to, fronted, grows_by, least_fresh, made_now, many_now, may, next_steps, of_element, positive, present_with, reached_after, some_now, stepped}
+use Rattle.smil_cells.proofs.Grown.{ComesNext, all_now, came_to, fronted, grows_by, least_fresh, made_now, many_now, may, next_steps, reached_after, some_now, stepped}
+use Rattle.smil_rounds.proofs.Following.{of_element}
+use Rattle.smil_rounds.proofs.Moments.{positive, present_with}
 use Rattle.smil_cells.proofs.cells.Cells.happen.Given.{Over}
 use Rattle.smil_cells.proofs.cells.Cells.happen.Goals as goal
 use Rattle.smil_cells.proofs.cells.Cells.happen.Goals.{After-len-from, After-possible}

@@ -7,7 +7,7 @@ use Rattle.smil_diary.specs.declared.fault.BookFault.{BookFault}
 use Rattle.smil_diary.specs.declared.fault.BookFault.TheVariants.{DiaryFull}
 use Rattle.smil_cells.specs.CellsState.{CellsState, GoesOn, IsFront, IsRefusing, StayTouched, WhereTold, fresh_since, reached_since, with_logged}
 use Rattle.smil_cells.specs.Standings.{standing_of}
-use Rattle.smil_cells.proofs.Grown.{fits}
+use Rattle.smil_rounds.proofs.Moments.{fits}
 use Rattle.smil_cells.proofs.OnWay.{goes_on_from}
 use Rattle.smil_cells.proofs.Onward.{refusing_on, state_on, front_on, goes_on_heard, reached_heard_on, fresh_heard_on, refusing_from}
 use Rattle.smil_cells.proofs.Refusals.{none_is_there, front_is_there, where_three}

@@ -4,7 +4,7 @@ use Rattle.std.proofs.lemmas.Int.{to_z-of_z}
 use Rattle.smil_model.specs.interval.Current.{current_interval}
 use Rattle.smil_past.specs.Past.{IsPresent, history_of}
 use Rattle.smil_cells.specs.CellsState.{WhereTold, any_interval}
-use Rattle.smil_cells.proofs.Grown.{positive}
+use Rattle.smil_rounds.proofs.Moments.{positive}
 use Rattle.smil_cells.specs.Standings.{IsSoundUnderMark}
 use Rattle.smil_cells.proofs.Begun.{is_present, kept}
 use Rattle.smil_cells.proofs.cells.Cells.over.Goals as goal

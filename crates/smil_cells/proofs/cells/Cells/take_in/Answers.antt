@@ -13,7 +13,7 @@ use Rattle.smil_past.specs.Past.{MarkedHistory}
 use Rattle.smil_element.proofs.Latest.{present_fits}
 use Rattle.smil_cells.specs.CellsState.{CellsState, IsFront, IsHeard, IsRefusing, NothingBefore, WhereTold, fresh_since, with_logged}
 use Rattle.smil_cells.specs.Standings.{IsSound, IsSoundUnderMark, standing_of}
-use Rattle.smil_cells.proofs.Grown.{positive}
+use Rattle.smil_rounds.proofs.Moments.{positive}
 use Rattle.smil_cells.proofs.Longer.{kept, refusing, with_entry}
 use Rattle.smil_cells.proofs.Refusals.{refused_by}
 use Rattle.smil_cells.proofs.Hearing.{present_heard, is_log_heard, may_hear, sound_heard, front_heard, current_before, came_heard, least_heard}

@@ -3,7 +3,7 @@ use Rattle.std.specs.Prelude.{Option, is_some, not}
 use Rattle.std.proofs.lemmas.Bool.{not-false}
 use Rattle.smil_model.specs.declared.interval.Interval.{Interval}
 use Rattle.smil_past.specs.Past.{history_of}
-use Rattle.smil_cells.proofs.Taking.{IsFound, found, has_row, own_first, own_interval, placed, taken_by}
+use Rattle.smil_rounds.proofs.Taking.{IsFound, found, has_row, own_first, own_interval, placed, taken_by}
 use Rattle.smil_element.specs.Endings.{ending_by}
 use Rattle.smil_nodes.specs.Endings.{put_ending}
 use Rattle.smil_nodes.proofs.live.LiveTable.evaluate.Given.{Over}

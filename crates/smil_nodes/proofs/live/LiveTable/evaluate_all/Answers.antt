@@ -5,15 +5,15 @@ use Rattle.smil_model.specs.document.Document.{elements}
 use Rattle.smil_laws.proofs.Numbered.{ordered}
 use Rattle.smil_graph.specs.Graph.{IsGraphOrder}
 use Rattle.smil_past.specs.Past.{history_of}
-use Rattle.smil_cells.specs.Round.{AreRowsEvaluated}
-use Rattle.smil_cells.proofs.Taking.{take_next}
-use Rattle.smil_cells.proofs.Current.{none_taken, ordered_element}
+use Rattle.smil_rounds.specs.Round.{AreRowsEvaluated}
+use Rattle.smil_rounds.proofs.Taking.{take_next}
+use Rattle.smil_rounds.proofs.Current.{none_taken, ordered_element}
 use Rattle.smil_nodes.proofs.Ranked.{order_length}
 use Rattle.smil_nodes.proofs.Finishing.{taken_current}
 use Rattle.std.proofs.Common.{get_or, ap, sym}
 use Rattle.smil_model.specs.document.Document.{node_at}
 use Rattle.smil_laws.proofs.Rounds.{find-serial}
-use Rattle.smil_cells.specs.Plain.{interval_in}
+use Rattle.smil_rounds.specs.Current.{interval_in}
 use Rattle.smil_nodes.specs.Work.{IsBelow}
 use Rattle.smil_nodes.proofs.Family.{child_below}
 use Rattle.smil_nodes.proofs.Knowing.{all_below, below_next, known_ended, knows, none_below}

@@ -1,7 +1,7 @@
 use Rattle.std.proofs.Common.{◌≡◌, ◌+◌}
 use Rattle.smil_past.specs.Past.{history_of}
-use Rattle.smil_cells.specs.Plain.{interval_in}
-use Rattle.smil_cells.specs.Round.{AreRowsEvaluated}
+use Rattle.smil_rounds.specs.Current.{interval_in}
+use Rattle.smil_rounds.specs.Round.{AreRowsEvaluated}
 use Rattle.smil_nodes.specs.Endings.{AreKnown}
 use Rattle.smil_nodes.specs.Work.{IsBelow}
 use Rattle.smil_nodes.proofs.live.LiveTable.evaluate_all.Given as goal

@@ -11,9 +11,9 @@ use Rattle.smil_laws.proofs.Rounds.{find-serial}
 use Rattle.smil_graph.specs.Graph.{IsGraphOrder}
 use Rattle.smil_past.specs.Past.{front, history_of}
 use Rattle.smil_element.proofs.Latest.{present_fits}
-use Rattle.smil_cells.specs.Plain.{interval_in}
-use Rattle.smil_cells.proofs.Current.{ordered_element}
-use Rattle.smil_cells.proofs.Taking.{unchanged_both, unchanged_none}
+use Rattle.smil_rounds.specs.Current.{interval_in}
+use Rattle.smil_rounds.proofs.Current.{ordered_element}
+use Rattle.smil_rounds.proofs.Taking.{unchanged_both, unchanged_none}
 use Rattle.smil_nodes.specs.Endings.{AreKnown}
 use Rattle.smil_nodes.specs.Marked.{GoesBack}
 use Rattle.smil_nodes.specs.Work.{AreSettled, HasSame, IsCounted, IsUnlisted, gap_from, is_later_reader}

@@ -1,8 +1,8 @@
 use Rattle.std.proofs.Common.{◌≡◌, ◌≤◌, drop, length}
 use Rattle.smil_model.specs.document.Closure.{has}
 use Rattle.smil_past.specs.Past.{history_of}
-use Rattle.smil_cells.specs.Plain.{interval_in}
-use Rattle.smil_cells.specs.Round.{StayUnchanged}
+use Rattle.smil_rounds.specs.Current.{interval_in}
+use Rattle.smil_rounds.specs.Round.{StayUnchanged}
 use Rattle.smil_nodes.specs.Endings.{AreKnown}
 use Rattle.smil_nodes.specs.Marked.{GoesBack}
 use Rattle.smil_nodes.specs.Work.{AreSettled, IsCounted, IsUnlisted, gap_from}

@@ -1,5 +1,5 @@
 use Rattle.std.proofs.Common.{◌≡◌, ◌∙◌, ap, sym, subst, List, Bool}
-use Rattle.smil_cells.specs.declared.plain.current_rows.CurrentRow.{CurrentRow}
+use Rattle.smil_rounds.specs.declared.current_rows.CurrentRow.{CurrentRow}
 use Rattle.smil_nodes.specs.Endings.{KeptEnds}
 use Rattle.smil_nodes.specs.Marked.{IsMarked, IsUpToDate}
 use Rattle.smil_nodes.specs.Undo.{ends_back, rows_back}

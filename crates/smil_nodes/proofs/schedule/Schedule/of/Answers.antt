@@ -1,7 +1,7 @@
 use Rattle.std.proofs.Common.{◌≡◌, ◌∙◌, ap, sym, subst, ◌*◌, ◌≤◌, length, map, arith}
 use Rattle.smil_model.specs.document.Document.{elements}
-use Rattle.smil_cells.specs.Rows.{AreNear, empty_row}
-use Rattle.smil_cells.proofs.Empty.{empty_near}
+use Rattle.smil_rounds.specs.Rows.{AreNear, empty_row}
+use Rattle.smil_rounds.proofs.Empty.{empty_near}
 use Rattle.smil_nodes.specs.Schedule.{slots_of}
 use Rattle.smil_nodes.proofs.Slotted.{rows_few, slots_empty}
 use Rattle.smil_nodes.proofs.schedule.Schedule.of.Goals as goal

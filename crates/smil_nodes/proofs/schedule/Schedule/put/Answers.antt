@@ -3,9 +3,9 @@ use Rattle.std.proofs.Math.ListN.{length-set}
 use Rattle.std.proofs.lemmas.List.Quantifiers.{position-Some}
 use Rattle.std.specs.Prelude.{◌==◌}
 use Rattle.std.specs.List.{position}
-use Rattle.smil_cells.specs.declared.plain.current_rows.CurrentRow.{CurrentRow}
-use Rattle.smil_cells.specs.Rows.{AreNear}
-use Rattle.smil_cells.proofs.Rows.{near_set}
+use Rattle.smil_rounds.specs.declared.current_rows.CurrentRow.{CurrentRow}
+use Rattle.smil_rounds.specs.Rows.{AreNear}
+use Rattle.smil_rounds.proofs.Rows.{near_set}
 use Rattle.smil_nodes.specs.Schedule.{slot_of, slots_of}
 use Rattle.smil_nodes.proofs.Slotted.{slots_length, slots_set}
 use Rattle.smil_nodes.proofs.schedule.Schedule.put.Goals as goal

@@ -7,7 +7,7 @@ use Rattle.smil_model.specs.document.Defaults.{endsync_of}
 use Rattle.smil_model.specs.interval.Durations.{container_duration}
 use Rattle.smil_element.proofs.Known.{kind_is, known_node}
 use Rattle.smil_element.proofs.Told.{tree_attrs, tree_node}
-use Rattle.smil_cells.proofs.Taking.{IsFound, found, has_row}
+use Rattle.smil_rounds.proofs.Taking.{IsFound, found, has_row}
 use Rattle.smil_nodes.proofs.sources.SourcesContainers.implicit.Goals as goal
 use Rattle.smil_nodes.proofs.sources.SourcesContainers.implicit.Goals.{After-unwrap-index}
 

@@ -12,29 +12,29 @@ pub returns-in-Some-clause-answers : goal.returns-in-Some-clause-answers
 returns-in-Some-clause-answers g c checks cut told running =
     let run = c.args.self.now in
     let load = c.in-Some.load in
-    let found = load-of load run.load cut.«open» running.load (sym c.take.ensures.value ∙ c.in-Some.is) in
+    let found = load-of load told.session.wanted run.load cut.«open» running.load (sym c.take.ensures.value ∙ c.in-Some.is) in
     let fault : Fault = record { line = load.line; refusal = UnfinishedLoad } in
     subst
     (λ (o : Option LoadLines). AnswersOrders checks c.tell.result c.tell.new.self (cut.whole ++ unended o) told (g.K.Sink.taken c.args.sink.now) (g.K.Sink.taken c.tell.new.sink) (g.K.Sink.sure_room c.args.sink.now) (g.K.Sink.sure_room c.tell.new.sink))
     (sym found.1)
     (told-order run.session (load_order found.0 None) (Err fault) run.answer running.tells
-    (unfinished-made checks run.answer run.session.house told.session found.0 load.line found.2.line running.tells.holds)
+    (unfinished-made checks run.answer run.session told.session found.0 load.line found.2.line running.tells.keeps)
     c.tell.ensures.session refl c.tell.ensures.counts c.tell.ensures.writes)
 
 pub returns-in-Some-clause-evaluated : goal.returns-in-Some-clause-evaluated
 returns-in-Some-clause-evaluated g c cut told steps running =
     let run = c.args.self.now in
     let load = c.in-Some.load in
-    let found = load-of load run.load cut.«open» running.load (sym c.take.ensures.value ∙ c.in-Some.is) in
+    let found = load-of load told.session.wanted run.load cut.«open» running.load (sym c.take.ensures.value ∙ c.in-Some.is) in
     let fault : Fault = record { line = load.line; refusal = UnfinishedLoad } in
     let order = load_order found.0 None in
     subst (λ (o : Option LoadLines). EvaluatesOn run.counts c.tell.new.self.counts cut.whole (cut.whole ++ unended o) steps steps) (sym found.1)
-    (evaluated-more order (Err fault) run.answer run.session.house steps steps running.tells
-    (unfinished-made false run.answer run.session.house told.session found.0 load.line found.2.line running.tells.holds)
+    (evaluated-more order (Err fault) run.answer run.session steps steps running.tells
+    (unfinished-made false run.answer run.session told.session found.0 load.line found.2.line running.tells.keeps)
     (counted-fault fault (λ bound. number_of bound told.session order) steps) (omega arith) c.tell.ensures.counts)
 
 pub returns-in-None-clause-evaluated : goal.returns-in-None-clause-evaluated
 returns-in-None-clause-evaluated g c cut told steps running =
     let run = c.args.self.now in
-    let out = no_load-of run.load cut.«open» running.load (sym c.take.ensures.value ∙ c.in-None.is) in
+    let out = no_load-of told.session.wanted run.load cut.«open» running.load (sym c.take.ensures.value ∙ c.in-None.is) in
     evaluated-ended run.counts run.counts cut.whole cut.«open» steps out refl

@@ -1,10 +1,11 @@
-use Rattle.std.proofs.Common.{◌≡◌, ℕ, [], ◌∷◌, ◌++◌, Some, true, false, refl, ap, sym, subst, ◌∙◌, arith}
+use Rattle.std.proofs.Common.{◌≡◌, ℕ, [], ◌∷◌, ◌++◌, Some, None, true, false, refl, ap, sym, subst, ◌∙◌, arith}
 use Rattle.std.proofs.KnownBytes.{Appends-nil}
 use Rattle.smil_grammar.specs.Scripts.{is_blank}
 use Rattle.smil_script.specs.Loads.{ends_load}
 use Rattle.smil_top.specs.declared.run.Run.{Run}
-use Rattle.smil_top.specs.Cut.{NumberedLine, LoadLines, with_line}
+use Rattle.smil_top.specs.Cut.{NumberedLine, LoadLines, load, with_line}
 use Rattle.smil_top.proofs.CutLines.{cut-ends, cut-long_node, cut-node}
+use Rattle.smil_top.proofs.Evaluated.{evaluated-cut}
 use Rattle.smil_top.proofs.Tells.{Shows, shown-line, running-order, running-load, tells-on}
 use Rattle.smil_top.proofs.run.Run.line_inside.Goals as goal
 use Rattle.smil_top.proofs.run.Run.line_inside.Goals.{in_default-via-in-Some-2+else-is_blank, in_default-via-in_default}
@@ -32,4 +33,13 @@ returns-in_default-clause-answers g c checks cut lines told line within read tel
       | in_default-via-in_default w ↦
           cut-long_node cut count line number lines within (subst (λ o. Shows o line) w.in_default.is shows)
     ] in
-    running-load read_on refl (c.push.ensures lines line read shows) (tells-on checks run new cut.whole told refl refl tells) (Appends-nil (g.K.Sink.taken c.args.sink.now), omega arith)
+    running-load read_on refl (c.push.ensures told.session.wanted lines line read shows) (tells-on checks run new cut.whole told refl refl tells) (Appends-nil (g.K.Sink.taken c.args.sink.now), omega arith)
+
+pub returns-in-Some-clause-evaluated : goal.returns-in-Some-clause-evaluated
+returns-in-Some-clause-evaluated g c cut lines told line within read tells number shows =
+    let count : ℕ = c.args.next.now.number in
+    let is = shown-line c.in-Some.is shows in
+    let ended : ends_load line ≡ true = ap ends_load is.0 ∙ sym c.ends_load.ensures ∙ c.if-ends_load.true in
+    evaluated-cut c.args.self.now.counts c.end_load.new.self.counts cut.whole (cut.whole ++ load lines (Some count) ∷ []) (with_line cut line) count None c.args.steps.now c.end_load.new.steps
+    (cut-ends cut count line number lines within is.1 ended)
+    (c.end_load.ensures.evaluated cut.whole lines told read tells)

@@ -11,19 +11,19 @@ pub answer_read-requires-clause-name : goal.answer_read-requires-clause-name
 answer_read-requires-clause-name g c = read-short c.args.line.now c.in_ok-read.read c.in_ok-read.ensures.reading
 
 pub returns-in_err-read-clause-answer : goal.returns-in_err-read-clause-answer
-returns-in_err-read-clause-answer g c session holds =
+returns-in_err-read-clause-answer g c session keeps =
     let checks = c.args.self.now.checks in
-    let house = c.args.self.now.house in
+    let so_far = c.args.self.now in
     let p = err_from_is_err_and c.from_residual.result c.from_residual.ensures.1 in
-    rw p.1 (subst (λ e. Makes (Err e) c.args.answer.now house session (line_by checks session c.args.number c.args.line.now)) (sym p.2)
-    (unmade-line checks house session c.args.number c.args.line.now holds c.args.answer.now c.in_err-read.field-0.0 c.in_err-read.ensures.reading))
+    rw p.1 (subst (λ e. Makes (Err e) c.args.answer.now so_far session (line_by checks session c.args.number c.args.line.now)) (sym p.2)
+    (unmade-line checks so_far session c.args.number c.args.line.now keeps c.args.answer.now c.in_err-read.field-0.0 c.in_err-read.ensures.reading))
 
 pub returns-clause-evaluated : goal.returns-clause-evaluated
-returns-clause-evaluated g c session holds runs =
+returns-clause-evaluated g c session keeps runs =
     counted-line c.answer_read.result session c.args.line.now c.in_ok-read.read (c.answer_read.new.steps - c.args.steps.now) c.requires.short c.in_ok-read.ensures.reading
-    (c.answer_read.ensures.evaluated session holds runs)
+    (c.answer_read.ensures.evaluated session keeps runs)
 
 pub returns-in_err-read-clause-evaluated : goal.returns-in_err-read-clause-evaluated
-returns-in_err-read-clause-evaluated g c session holds runs =
+returns-in_err-read-clause-evaluated g c session keeps runs =
     let p = err_from_is_err_and c.from_residual.result c.from_residual.ensures.1 in
     rw p.1 (counted-refused p.0 (λ bound. line_number bound session c.args.line.now) c.args.steps.now)

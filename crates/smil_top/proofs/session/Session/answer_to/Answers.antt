@@ -9,12 +9,12 @@ use Rattle.smil_top.specs.Answers.{ordered_within}
 use Rattle.smil_top.specs.Evaluations.{ordered_number}
 use Rattle.smil_top.specs.Running.{IsCounted, Makes}
 use Rattle.smil_top.proofs.Evaluated.{counted-ordered, counted-unordered}
-use Rattle.smil_top.proofs.Makings.{made-ordered, unmade-ordered}
+use Rattle.smil_top.proofs.Makings.{in_house, made-ordered, unmade-ordered}
 use Rattle.smil_top.proofs.session.Session.answer_to.Goals as goal
 
 pub returns-clause-answer : goal.returns-clause-answer
-returns-clause-answer g c session holds =
-    let house = c.args.self.now.house in
+returns-clause-answer g c session keeps =
+    let so_far = c.args.self.now in
     let new = c.answer.new.self in
     let number : ℕ = c.args.number in
     let name : List ℕ = c.slice-name.result.now in
@@ -24,15 +24,15 @@ returns-clause-answer g c session holds =
     let is : told ≡ text = c.in_ok-now.ensures.appended ∙ ap (λ (a : AnswerText). a.told ++ text) c.requires.empty in
     let now : to_z w64 (of_z w64 c.in_ok-now.now) ≡ c.in_ok-now.now = omega (arith, ints) in
     let last : c.ok-answer.result ≡ ok_line number name c.in_ok-now.now = c.ok-answer.ensures ∙ ap (ok_line number name) now in
-    let made = made-ordered name order house new session number holds text told (c.answer.new.steps - c.args.steps.now) c.in_ok-now.now is c.in_ok-now.ensures.ok in
+    let made = made-ordered name order so_far new session number keeps text told (c.answer.new.steps - c.args.steps.now) c.in_ok-now.now is c.in_ok-now.ensures.ok in
     subst
-    (λ n. Makes (Ok tt) (record { told = told; last = c.ok-answer.result }) new session (ordered_within limits session number n order))
+    (λ n. Makes (Ok tt) (record { told = told; last = c.ok-answer.result }) (in_house so_far new) session (ordered_within limits session number n order))
     c.slice-name.ensures
-    (subst (λ l. Makes (Ok tt) (record { told = told; last = l }) new session (ordered_within limits session number name order)) (sym last) made)
+    (subst (λ l. Makes (Ok tt) (record { told = told; last = l }) (in_house so_far new) session (ordered_within limits session number name order)) (sym last) made)
 
 pub returns-in_err-now-clause-answer : goal.returns-in_err-now-clause-answer
-returns-in_err-now-clause-answer g c session holds =
-    let house = c.args.self.now.house in
+returns-in_err-now-clause-answer g c session keeps =
+    let so_far = c.args.self.now in
     let new = c.answer.new.self in
     let number : ℕ = c.args.number in
     let name : List ℕ = c.slice-name.result.now in
@@ -40,21 +40,21 @@ returns-in_err-now-clause-answer g c session holds =
     let text : AnswerText = c.args.answer.now in
     let refusal : Refusal = c.in_err-now.field-0.0 in
     let p = err_from_is_err_and c.from_residual.result c.from_residual.ensures.1 in
-    let unmade = unmade-ordered name order house new session number holds text (c.answer.new.steps - c.args.steps.now) refusal c.in_err-now.ensures.refused c.in_err-now.ensures.kept in
-    rw p.1 (subst (λ e. Makes (Err e) text new session (ordered_within limits session number c.args.named.now.name.now order)) (sym p.2)
-    (subst (λ n. Makes (Err refusal) text new session (ordered_within limits session number n order)) c.slice-name.ensures unmade))
+    let unmade = unmade-ordered name order so_far new session number keeps text (c.answer.new.steps - c.args.steps.now) refusal c.in_err-now.ensures.refused c.in_err-now.ensures.kept in
+    rw p.1 (subst (λ e. Makes (Err e) text (in_house so_far new) session (ordered_within limits session number c.args.named.now.name.now order)) (sym p.2)
+    (subst (λ n. Makes (Err refusal) text (in_house so_far new) session (ordered_within limits session number n order)) c.slice-name.ensures unmade))
 
 pub returns-clause-evaluated : goal.returns-clause-evaluated
-returns-clause-evaluated g c session holds =
+returns-clause-evaluated g c session keeps =
     let house = c.args.self.now.house in
     let order = c.args.named.now.order.now in
     let text : List ℕ = drop (length c.args.answer.now.told) c.answer.new.out in
     let rise : ℕ = c.answer.new.steps - c.args.steps.now in
     subst (λ n. IsCounted (Ok tt) (λ bound. ordered_number bound session n order) rise) c.slice-name.ensures
-    (counted-ordered c.slice-name.result.now order house c.answer.new.self session holds text rise c.in_ok-now.now c.in_ok-now.ensures.ok)
+    (counted-ordered c.slice-name.result.now order house c.answer.new.self session keeps.held text rise c.in_ok-now.now c.in_ok-now.ensures.ok)
 
 pub returns-in_err-now-clause-evaluated : goal.returns-in_err-now-clause-evaluated
-returns-in_err-now-clause-evaluated g c session holds =
+returns-in_err-now-clause-evaluated g c session keeps =
     let house = c.args.self.now.house in
     let order = c.args.named.now.order.now in
     let rise : ℕ = c.answer.new.steps - c.args.steps.now in
@@ -62,4 +62,4 @@ returns-in_err-now-clause-evaluated g c session holds =
     let p = err_from_is_err_and c.from_residual.result c.from_residual.ensures.1 in
     rw p.1 (subst (λ e. IsCounted (Err e) (λ bound. ordered_number bound session c.args.named.now.name.now order) rise) (sym p.2)
     (subst (λ n. IsCounted (Err refusal) (λ bound. ordered_number bound session n order) rise) c.slice-name.ensures
-    (counted-unordered c.slice-name.result.now order house c.answer.new.self session holds rise refusal c.in_err-now.ensures.refused)))
+    (counted-unordered c.slice-name.result.now order house c.answer.new.self session keeps.held rise refusal c.in_err-now.ensures.refused)))

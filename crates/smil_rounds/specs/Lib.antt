@@ -1,0 +1,4 @@
+pub mod Appended
+pub mod Current
+pub mod Rows
+pub mod Round

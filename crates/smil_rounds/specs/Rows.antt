@@ -1,0 +1,31 @@
+-- Rows of elements.
+use Rattle.std.specs.Prelude.{◌≡◌, ◌≢◌, ◌⊎◌, ℕ, List, Option, Some, None, IfSome}
+use Rattle.std.specs.List.{AllByRecursion}
+use Rattle.smil_model.specs.declared.happening.Key.{Key}
+use Rattle.smil_model.specs.declared.document.Node.{Node}
+use Rattle.smil_model.specs.FirstPlaces.{AreFirstPlaces}
+use Rattle.smil_laws.specs.Near.{IsIntervalNear}
+use Rattle.smil_element.specs.declared.happening.change.DueChange.{DueChange}
+use Rattle.smil_rounds.specs.declared.current_rows.CurrentRow.{CurrentRow}
+
+-- the row of an element without an interval, of which nothing comes
+abbrev pub row_without : ℕ → CurrentRow
+row_without serial =
+    record { serial = serial; interval = None; comings = record { moved = None; repeat = None } }
+
+abbrev pub empty_row : Node → CurrentRow
+empty_row e = row_without e.serial
+
+-- the numbers of each interval are near
+abbrev pub AreNear : List CurrentRow → Type 0
+AreNear rows = AllByRecursion (λ (r : CurrentRow). IfSome r.interval IsIntervalNear) rows
+
+-- a table from serials to places
+abbrev pub ArePlaces : (ℕ → Option ℕ) → List CurrentRow → Type 0
+ArePlaces found rows = AreFirstPlaces (λ (r : CurrentRow). r.serial) found rows
+
+-- of the two that come of an element the first where it has this key, else the second
+abbrev pub IsChosen : Key → Option DueChange → Option DueChange → Option DueChange → Type 0
+IsChosen key None repeat chosen = chosen ≡ repeat
+IsChosen key (Some moved) repeat chosen =
+    ((moved.key ≡ key) × (chosen ≡ Some moved)) ⊎ ((moved.key ≢ key) × (chosen ≡ repeat))

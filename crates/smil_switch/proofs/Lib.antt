@@ -1,0 +1,5 @@
+pub mod Held
+pub mod Levels
+pub mod Spines
+pub mod Pushes
+pub mod Blanked

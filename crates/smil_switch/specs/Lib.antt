@@ -1,0 +1,5 @@
+pub mod Preferences
+pub mod Choices
+pub mod Trees
+pub mod Gives
+pub mod Laws

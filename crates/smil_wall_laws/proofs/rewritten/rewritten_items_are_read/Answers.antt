@@ -1,0 +1,5 @@
+use Rattle.smil_wall_laws.proofs.ReadAgain.{items_read}
+use Rattle.smil_wall_laws.proofs.rewritten.rewritten_items_are_read.Goals as goal
+
+pub returns : goal.returns
+returns c = items_read
