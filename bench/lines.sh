@@ -4,29 +4,7 @@
 set -eu
 . "$(dirname "$0")/program.sh"
 new_program time_lines smil_outside
-cat > "$program/src/main.rt" <<'RT'
-#![tactic(auto)]
-
-use smil_outside::{INPUT_BYTES, Line, LineReader, StdSource};
-use std::io;
-use std::time::Instant;
-
-fn main(rt: HostRuntime) -> io::Result<()> {
-    let start = Instant::now(&rt)?;
-    let mut source = StdSource::new(rt.reader());
-    let mut reader = LineReader::new(rt.alloc())?;
-    let mut answer = Line::Bytes;
-    for _ in 0..INPUT_BYTES {
-        answer = reader.next(&mut source);
-        if answer != Line::Bytes && answer != Line::LongLine {
-            break;
-        }
-    }
-    let taken = start.elapsed(&rt)?.as_micros();
-    let lines = reader.number();
-    println!(rt; "{answer:?} after {lines} lines, {taken} microseconds")
-}
-RT
+cp "$here/bench/programs/lines.rattle" "$program/src/main.rt"
 yes '# a comment that stands in a session, of about the usual length' | head -c 67108864 > "$work/input"
 cd "$program"
 rt run < "$work/input" 2>&1 | tee "$work/log" | tail -n 3

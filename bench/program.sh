@@ -40,13 +40,5 @@ with_below() {
 
 # with_main: appends `main` to the main file: it answers standard input by the file's `compare`.
 with_main() {
-    cat >> "$program/src/main.rt" <<'RT'
-
-fn main(rt: HostRuntime) -> io::Result<()> {
-    let alloc = rt.alloc();
-    let mut out = BufWriter::new(alloc, io::writer(&rt))?;
-    let input = BufReader::new(alloc, rt.reader())?;
-    compare::<_, _, Brand>(alloc, Blank::new(1), input, &mut out)
-}
-RT
+    { echo; cat "$here/bench/programs/answering_input.rattle"; } >> "$program/src/main.rt"
 }

@@ -4,7 +4,7 @@
 # run of a program, and prints for each kind the cases, the runs and the lines that differ; the
 # first that differ are shown. The programs are those which `rt run` builds, or PROBE and PLAYS.
 set -eu
-. "$(dirname "$0")/program.sh"
+. "$(dirname "$0")/../bench/program.sh"
 new_work
 oracle=$1
 seed=${2:-1}
@@ -30,7 +30,7 @@ for kind in $kinds; do
     while [ "$left" -gt 0 ]; do
         count=$((left < 10000 ? left : 10000))
         left=$((left - count))
-        python3 "$here/bench/probe_cases.py" --oracle "$oracle" --out "$work" --seed "$((seed * 1000 + runs))" --cases "$count" --kind "$kind" > /dev/null
+        python3 "$here/compare/probe_cases.py" --oracle "$oracle" --out "$work" --seed "$((seed * 1000 + runs))" --cases "$count" --kind "$kind" > /dev/null
         "$program" < "$work/${kind}000" > "$work/answers"
         if ! cmp -s "$work/answers" "$work/${kind}000.stdout"; then
             paste -d '\n' "$work/${kind}000" "$work/${kind}000.stdout" "$work/answers" | awk 'NR % 3 == 1 { given = $0 }

@@ -22,11 +22,5 @@ def arguments(made):
     return told
 
 
-class Built(int):
-    """What of the model's last state the program has: all but wall clock items and content selection."""
-
-    def __ge__(self, other):
-        return other not in (17, 19) and int.__ge__(self, other)
-
-
-REQUEST = Built(20)
+# what of the model's states the program has: the last one
+REQUEST = 20

@@ -1303,9 +1303,34 @@ def write_pairs(folder, given_name, wanted_name, cases):
     write(folder, given_name, wanted_name, [given for given, _ in cases], [wanted for _, wanted in cases])
 
 
+# the headings of stored cases, each with the words of the cases behind it
+HEADINGS = [
+    ('Times: the later of a time and a number', 'later'), ('Times: which of two comes first', 'order'),
+    ('Clock values, read and written', 'clock'), ('Lists of times, read and written', 'list'),
+    ('Node lines, read and written', 'node'), ('Outlines, read and written', 'outline'), ('Script lines, read', 'script'),
+    ('Instants of the wall clock, read', 'instant'), ('Lines with wall clock items, rewritten', 'anchor rewrite'),
+    ('Lines, chosen by what is preferred', 'prefer choose'), ('Lines of a diary, read', 'entry'),
+    ('Durations', 'simple intermediate active-end'), ('Intervals, searched', 'interval'), ('Ends of containers', 'endsync'),
+    ('Decisions on a begin in an excl', 'decide'), ('The queue of an excl', 'queue'), ('What is due, and in which order', 'before least-key due'),
+    ('Diaries, and what they tell', 'book'), ('Views of elements', 'view'), ('Lines of transcripts, written', 'change gone history ok closed refusal'),
+    ('Documents, edited as trees', 'tree'), ('Graphs of documents', 'graph'), ('Presentations, played', 'play')]
+
+
+def with_headings(cases):
+    """The cases in the order of HEADINGS, each group behind its heading, which answers itself; those that name no call come last."""
+    words = {word for _, group in HEADINGS for word in group.split()}
+    groups = HEADINGS + [('Cases that name no call', ' '.join({given.split(' ')[0] for given, _ in cases} - words) + ' ')]
+    for heading, group in groups:
+        mine = [case for case in cases if case[0].split(' ')[0] in group.split(' ')]
+        if mine:
+            yield '# ' + heading, '# ' + heading
+            yield from mine
+
+
 def write_stored(program, cases):
+    """Writes what a program for tests is run on and what it must print."""
     folder = os.path.join(os.path.dirname(os.path.abspath(__file__)), '..', 'crates', program)
-    write_pairs(folder, 'stdin', 'stdout', cases)
+    write_pairs(folder, 'stdin', 'stdout', list(with_headings(cases)))
     print('%s %d' % (program, len(cases)))
 
 

@@ -8,16 +8,16 @@ line by line, where each line waits for the answers before it. NAME.reads.table
 tells for reads of NAME.in, 16 bytes each, how many lines are answered where one of
 them fails, and the last line. Any other NAME.table has clock values, each with `|`
 and its number of milliseconds, Bad or TooLong. Sessions with faults of the outside,
-and lists with faults, stand below. Left out is what the program doesn't have and
-what takes long: `LEFT_OUT`. No value comes from the program."""
+and lists with faults, stand below. Left out is what takes long or is no more: `LEFT_OUT`.
+No value comes from the program."""
 import argparse
 import re
 from pathlib import Path
 
 TOP = Path(__file__).resolve().parent.parent
 
-# Moments of the wall clock, preferences, and audits; and diaries of hundreds of thousands of entries, which take long.
-LEFT_OUT = ('begin="wallclock(2008-12-01T', 'prefer ', 'audit', '"-499998ms"', '"-999998ms"', '"-1000000s"')
+# Diaries of hundreds of thousands of entries, which take long; and the usage line as it was before audits.
+LEFT_OUT = ('"-499998ms"', '"-999998ms"', '"-1000000s"', 'gen N\n')
 
 # What a worked session shows, by a part of its input or its words.
 TITLES = [
@@ -52,6 +52,12 @@ TITLES = [
     ('outline 2 next 4', 'Outlines with serials, read'),
     ('targetElement="x"', 'Two sets of one attribute: the later one is on top while it is active'),
     ('t stack p title', 'Two sets of one attribute that began together'),
+    ('par id="r" dur="60s"', 'An instant of the wall clock, where moment 0 is another'),
+    ('begin="wallclock(2008-12-01T', 'An instant of the wall clock, and a root without an id'),
+    ('prefer captions on', 'Sounds by language, and captions'),
+    ('prefer bitrate', 'A bitrate that is no number'),
+    ('now 5000', 'A diary is audited'),
+    ('outline 2 next 9', 'A diary with pauses is audited'),
 ]
 EMPTY = 'An empty input'
 CHUNKS = ['', ' chunk=1', ' chunk=7', ' chunk=64']
@@ -63,7 +69,7 @@ CHANGES = '0 #1 active 0 3000 0 0\n0 a waiting 1000 3000 0 0\n'
 LOADED = CHANGES + 'ok 1 d 0\n'
 MOVES = '1000 a active 1000 3000 0 0\n3000 #1 frozen 0 3000 0 1\n3000 a done 1000 3000 0 1\n'
 ANSWERED = LOADED + MOVES + 'ok 5 d 5000\n'
-USAGE = 'usage: smilplay run | smilplay check | smilplay gen N\n'
+USAGE = 'usage: smilplay run | smilplay check | smilplay gen N | smilplay audit\n'
 
 LINE_ENDS = ('load d\r\n# a comment\r\npar\r\n\r\n  img id="a" begin="1000ms" dur="00:02"\r\n  %%\r\n'
              'd advance 1s\r\nd text')
