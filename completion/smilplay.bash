@@ -8,7 +8,7 @@ _smilplay()
     if [[ $before == '<' || $before == '>' ]]; then
         mapfile -t COMPREPLY < <(compgen -f -- "$word")
     elif ((COMP_CWORD == 1)); then
-        mapfile -t COMPREPLY < <(compgen -W 'run check gen' -- "$word")
+        mapfile -t COMPREPLY < <(compgen -W 'run check gen audit' -- "$word")
     elif ((COMP_CWORD == 2)) && [[ $before == gen && -n $word ]]; then
         mapfile -t COMPREPLY < <(compgen -W "$(seq 1 900)" -- "$word")
     fi

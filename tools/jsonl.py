@@ -6,7 +6,8 @@ usage: jsonl.py [TRANSCRIPT]
 The transcript is read from the file, or from the standard input. Each object has a "type" and the
 fields of that type, which transcript.py lists. An object that belongs to an accepted order has two
 fields more: "order", the order's line in the session, and "presentation". Objects are written as
-soon as their answer is whole, so jsonl.py can stand in a pipe.
+soon as their answer is whole, so jsonl.py can stand in a pipe. The exit number is 1 where the file
+can't be read, and 2 where the words can't be read.
 """
 
 import json
@@ -27,15 +28,20 @@ def objects_of(lines):
 
 
 def main(words):
+    """Does what the words of a call say, and gives the exit number."""
     if words in (["--help"], ["-h"]):
         print(__doc__.strip())
         return 0
     if len(words) > 1:
         print("usage: jsonl.py [TRANSCRIPT]", file=sys.stderr)
         return 2
-    with open(words[0], encoding="utf-8") if words else sys.stdin as lines:
-        for record in objects_of(lines):
-            print(json.dumps(record, ensure_ascii=False), flush=True)
+    try:
+        with open(words[0], encoding="utf-8", errors="replace") if words else sys.stdin as lines:
+            for record in objects_of(lines):
+                print(json.dumps(record, ensure_ascii=False), flush=True)
+    except OSError as fault:
+        print(f"jsonl.py: {fault.filename}: {fault.strerror}", file=sys.stderr)
+        return 1
     return 0
 
 

@@ -10,11 +10,13 @@ SMILPLAY is the path of the program. Three things are run:
             the word check. In a block `console` each line behind `$ ` is a command for bash, which
             runs in a folder of its own with the repository's examples and tools in it; the lines
             behind it are what it prints.
-  examples  every examples/NAME.play, with the words of NAME.play.args, against NAME.play.stdout.
+  examples  every examples/NAME.play, with the words of NAME.play.args, or with `run` where there is
+            none, against NAME.play.stdout.
   tools     the tests in tools/tests.
 
 Nothing is written into the repository. With --fill the blocks that differ are written anew in their
-pages instead, and examples/NAME.play.stdout where it differs. --only runs what has WORD in its name.
+pages instead, examples/NAME.play.stdout where it differs, and the numbers of lines in docs/TIMING.md.
+--only runs what has WORD in its name, and fails where nothing has.
 The last line is `N passed, M failed`; the exit number is 0 where M is 0, else 1.
 """
 
@@ -38,9 +40,9 @@ def run_session(program, words, text):
 
 def status_of(words, transcript):
     """The exit number that belongs to a session's words and its transcript."""
-    if words[0] not in ("run", "check", "gen"):
+    if words[0] not in ("run", "check", "gen", "audit"):
         return 2
-    return 1 if re.search(r"^! ", transcript, re.MULTILINE) else 0
+    return 1 if re.search(r"^! |^no [0-9]+$", transcript, re.MULTILINE) else 0
 
 
 class Block:
@@ -52,6 +54,7 @@ class Block:
         self.end = end
 
     def text(self, lines):
+        """What stands in it, of the lines of its page."""
         return "".join(line + "\n" for line in lines[self.first:self.end])
 
 
@@ -72,7 +75,10 @@ def blocks_of(lines):
 
 
 def session_parts(lines):
-    """Each session of a page: its words, its text, and the block of its transcript."""
+    """Each session of a page: its words, its text, and the block of its transcript.
+
+    Raises ValueError where a session has no transcript behind it.
+    """
     blocks = blocks_of(lines)
     for block, following in zip(blocks, blocks[1:] + [None]):
         if block.info[:1] == ["play"]:
@@ -113,19 +119,26 @@ def outline_as_read(program, text, canonical):
 
 
 class Report:
-    """Counts what passed and failed, and says what failed."""
+    """Counts what passed, failed and was left out, and says what failed and what was left out."""
 
     def __init__(self):
         self.passed = 0
         self.failed = 0
+        self.skipped = 0
 
     def say(self, name, wanted, found):
+        """Counts a test by what was wanted and what was found, and shows both where they differ."""
         if wanted == found:
             self.passed += 1
             return True
         self.failed += 1
         print(f"FAILED {name}\n--- wanted\n{wanted}--- found\n{found}---", flush=True)
         return False
+
+    def skip(self, name, reason):
+        """Counts a test that can't be run here."""
+        self.skipped += 1
+        print(f"SKIPPED {name}: {reason}", flush=True)
 
 
 def page_results(program, lines):
@@ -155,8 +168,15 @@ def test_page(program, page, fill, report):
         page.write_text("\n".join(lines))
 
 
+def words_of(session):
+    """The words with which an example is run."""
+    words = Path(f"{session}.args")
+    return words.read_text().split("\n")[:-1] if words.exists() else ["run"]
+
+
 def test_example(program, session, fill, report):
-    words = Path(f"{session}.args").read_text().split("\n")[:-1]
+    """Tests an example, or writes its transcript anew."""
+    words = words_of(session)
     found, status = run_session(program, words, session.read_bytes())
     if status != status_of(words, found):
         found += f"exit number {status}\n"
@@ -167,9 +187,16 @@ def test_example(program, session, fill, report):
         report.say(str(session.relative_to(TOP)), wanted.read_text(), found)
 
 
+def fill_places():
+    """Writes the lines of functions in docs/TIMING.md anew."""
+    import places  # of tools/tests
+
+    places.PAGE.write_text(places.filled(places.PAGE.read_text()))
+
+
 def test_tools(program, only, report):
+    """Runs the tests of the tools that have a word in their name; one that lacks something here says what."""
     os.environ["SMILPLAY"] = str(Path(program).resolve())
-    sys.path[:0] = [str(TOP / "tools"), str(TOP / "tools" / "tests")]
     suite = unittest.defaultTestLoader.discover(str(TOP / "tools" / "tests"), top_level_dir=str(TOP / "tools" / "tests"))
     for test in tests_of(suite):
         if only in test.id():
@@ -177,10 +204,14 @@ def test_tools(program, only, report):
             test.run(result)
             for _, trace in result.errors + result.failures:
                 print(trace)
-            report.say(test.id(), "passed\n", "passed\n" if result.wasSuccessful() else "failed\n")
+            for _, reason in result.skipped:
+                report.skip(test.id(), reason)
+            if not result.skipped:
+                report.say(test.id(), "passed\n", "passed\n" if result.wasSuccessful() else "failed\n")
 
 
 def tests_of(suite):
+    """Each test of a suite, of those in it too."""
     for part in suite:
         if isinstance(part, unittest.TestSuite):
             yield from tests_of(part)
@@ -189,11 +220,14 @@ def tests_of(suite):
 
 
 def pages():
+    """The pages that are tested."""
     return [TOP / "README.md", *sorted(TOP.glob("*/README.md")), *sorted((TOP / "docs").glob("*.md"))]
 
 
 def main(words):
+    """Does what the words of a call say, and gives the exit number."""
     sys.dont_write_bytecode = True
+    sys.path[:0] = [str(TOP / "tools"), str(TOP / "tools" / "tests")]
     fill = "--fill" in words
     words = [word for word in words if word != "--fill"]
     only = ""
@@ -208,6 +242,8 @@ def main(words):
     if not os.access(words[0], os.X_OK):
         print(f"test.py: no program at {words[0]}", file=sys.stderr)
         return 2
+    if fill:
+        fill_places()
     report = Report()
     for page in pages():
         if only in str(page.relative_to(TOP)):
@@ -216,7 +252,12 @@ def main(words):
         if only in str(session.relative_to(TOP)):
             test_example(words[0], session, fill, report)
     test_tools(words[0], only, report)
+    if report.skipped:
+        print(f"{report.skipped} skipped, for want of what SKIPPED lines name")
     print(f"{report.passed} passed, {report.failed} failed")
+    if only and not fill and report.passed + report.failed == 0:
+        print(f"test.py: nothing has {only} in its name", file=sys.stderr)
+        return 1
     return 1 if report.failed else 0
 
 

@@ -10,8 +10,10 @@ A record is a dictionary whose "type" is one of
   entry     a line of `diary`: moment, step, and element, begin, start, end, event, length or key
   now       the last line of `diary`: moment
   outline   a line of an outline, as `text`, `save`, `diary` and `check` tell it: text
-  ok        the end of an accepted order: line, presentation, and moment or closed
+  ok        the end of an accepted order: line, presentation, and moment or closed; of a line
+            `prefer` and in `check` there is neither, and a preference is told as of `prefer`
   refusal   a refused order: line, word, and column where the word has one
+  verdict   the line of `audit`: right, and entries or place
   text      any other line, as the usage line: text
 
 A time is a number of milliseconds, one of the words "indefinite", "unresolved" and "?", or None for `-`.
@@ -34,6 +36,8 @@ _BEHIND_STEP = {"began": "begin", "deferred": "begin", "passed": "begin", "repea
 
 def time_of(word):
     """The time that a word of a line tells."""
+    if word.isdecimal():
+        return int(word)
     if word == "-":
         return None
     return int(word) if _NUMBER.match(word) else word
@@ -42,15 +46,24 @@ def time_of(word):
 def record_of(line):
     """The record of one line, which has no line end."""
     words = line.split(" ")
+    if len(words) == 7 and words[0].isdecimal() and words[2] in STATES:
+        return _timed(words)
     if words[0] == "ok" and len(words) in (3, 4) and words[1].isdigit():
         return _ok(words)
     if words[0] == "!" and len(words) in (3, 4):
         return _refusal(words)
     if _NUMBER.match(words[0]) and len(words) > 1:
         return _timed(words) or {"type": "text", "text": line}
-    if words[0] == "now" and len(words) == 2 and _NUMBER.match(words[1]):
-        return {"type": "now", "moment": int(words[1])}
+    if words[0] in ("now", "yes", "no") and len(words) == 2 and _NUMBER.match(words[1]):
+        return _counted(words[0], int(words[1]))
     return _told(line)
+
+
+def _counted(word, number):
+    """The record of a word with a number."""
+    if word == "now":
+        return {"type": "now", "moment": number}
+    return {"type": "verdict", "right": word == "yes", ("entries" if word == "yes" else "place"): number}
 
 
 def _ok(words):

@@ -1,6 +1,7 @@
 """Tests the files for shells, editors and man, with what this machine has of them."""
 
 import json
+import os
 import re
 import shutil
 import subprocess
@@ -11,18 +12,23 @@ from pathlib import Path
 from calling import EXAMPLES, TOP, smilplay
 
 SHOWN = """# comment
-load show
+prefer captions on
+load show at 2026-12-01T12:00:00Z
 par #1 id="text" begin="0s;a.end+1.5s;00:10"
   switch
-  set to="x"
+  prefetch
+  set to="x" begin="wallclock(2026-12-01)"
 %%
 show advance 2s
 set set #3 dur "indefinite"
 """
-WANTED = ["[Comment]# comment", "[Load]load[] [Loaded]show",
+WANTED = ["[Comment]# comment", "[Prefer]prefer[] [Preferred]captions[] on",
+          "[Load]load[] [Loaded]show[] [At]at[] [Instant]2026-12-01T12:00:00Z",
           '[Container]par[] [Serial]#1[] [Attribute]id[Equals]=[Value]"text"[] [Attribute]begin[Equals]='
           '[Value]"[Clock]0s[Value];a.end+[Clock]1.5s[Value];[Clock]00:10[Value]"',
-          "[Unsupported]  switch", '[Media]  set[] [Attribute]to[Equals]=[Value]"x"', "[End]%%",
+          "[Container]  switch", "[Unsupported]  prefetch",
+          '[Media]  set[] [Attribute]to[Equals]=[Value]"x"[] [Attribute]begin[Equals]='
+          '[Value]"wallclock([Instant]2026-12-01[Value])"', "[End]%%",
           "[Name]show[] [Order]advance[] [Clock]2s",
           '[Name]set[] [Order]set[] [Serial]#3[] dur [Value]"[Word]indefinite[Value]"']
 VIM = r"""syntax on
@@ -58,7 +64,7 @@ class Vim(unittest.TestCase):
 
 class TextMate(unittest.TestCase):
     def setUp(self):
-        self.grammar = json.loads((TOP / "editors" / "smilplay.tmLanguage.json").read_text())
+        self.grammar = json.loads((TOP / "editors" / "vscode" / "smilplay.tmLanguage.json").read_text())
         self.rules = self.grammar["repository"]
 
     def rule_of(self, line):
@@ -80,16 +86,77 @@ class TextMate(unittest.TestCase):
 
     def test_each_line_has_its_rule(self):
         self.assertEqual([self.rule_of(line) for line in SHOWN.splitlines()],
-                         ["comment", "load", "node", "node", "node", "end", "order", "order"])
+                         ["comment", "prefer", "load", "node", "node", "node", "node", "end", "order", "order"])
 
     def test_every_line_of_the_examples_has_a_rule(self):
-        for name in ("tour", "kiosk", "quiz", "emergency", "captions", "hundred_presentations", "saved_and_loaded"):
+        for name in ("tour", "kiosk", "quiz", "emergency", "captions", "hundred_presentations", "saved_and_loaded",
+                     "opening_hours", "captions_by_language", "slow_lines"):
             for line in (EXAMPLES / f"{name}.play").read_text().splitlines():
                 self.assertIsNotNone(self.rule_of(line), line)
 
     def test_values(self):
         clock = re.compile(self.rules["clock"]["match"])
         self.assertEqual(clock.findall("0s;a.end+1.5s;00:10 id9 a-2"), ["0s", "1.5s", "00:10"])
+
+
+class VsCode(unittest.TestCase):
+    FOLDER = TOP / "editors" / "vscode"
+
+    def test_the_folder_is_an_extension_with_the_grammar(self):
+        package = json.loads((self.FOLDER / "package.json").read_text())
+        self.assertRegex(package["version"], r"^[0-9]+\.[0-9]+\.[0-9]+$")
+        self.assertIn("vscode", package["engines"])
+        language, = package["contributes"]["languages"]
+        grammar, = package["contributes"]["grammars"]
+        self.assertEqual((language["id"], language["extensions"]), (grammar["language"], [".play"]))
+        read = json.loads((self.FOLDER / grammar["path"]).read_text())
+        self.assertEqual(read["scopeName"], grammar["scopeName"])
+
+    def test_comments_brackets_and_indentation(self):
+        language = json.loads((self.FOLDER / "language-configuration.json").read_text())
+        self.assertEqual(language["comments"]["lineComment"], {"comment": "#", "noIndent": True})
+        self.assertTrue(re.match(language["indentationRules"]["increaseIndentPattern"], '  seq id="a"'))
+        self.assertFalse(re.match(language["indentationRules"]["increaseIndentPattern"], '  img id="a"'))
+        self.assertEqual(re.fullmatch(language["wordPattern"], "slide-1.b")[0], "slide-1.b")
+
+
+class OtherShells(unittest.TestCase):
+    ZSH = r"""
+zmodload zsh/zpty
+zpty shell zsh -f -i
+zpty -w shell "fpath=($1 \$fpath); autoload -Uz compinit; compinit -u -D; bindkey '^I' list-choices; LISTMAX=1000; print READ'Y'"
+zpty -r shell told '*READY*'
+zpty -n -w shell "smilplay $2"$'\t'
+for turn in {1..50}; do
+  sleep 0.1
+  while zpty -r -t shell told; do print -rn -- $told; done
+done
+zpty -d shell
+"""
+
+    @unittest.skipUnless(shutil.which("fish"), "Debian's fish is missing")
+    def test_fish(self):
+        for typed, wanted in (("", ["audit", "check", "gen", "run"]), ("c", ["check"]), ("gen 90", ["90", "900"]), ("run ", [])):
+            script = f"source {TOP}/completion/smilplay.fish; complete --do-complete 'smilplay {typed}'"
+            with tempfile.TemporaryDirectory() as home:
+                run = subprocess.run(["fish", "--no-config", "-c", script], cwd=home, capture_output=True, text=True, check=False,
+                                     env=dict(os.environ, HOME=home))
+            self.assertEqual([line.split("\t")[0] for line in run.stdout.splitlines()], wanted, run.stderr)
+
+    @unittest.skipUnless(shutil.which("zsh"), "Debian's zsh is missing")
+    def test_zsh(self):
+        run = subprocess.run(["zsh", "-f", "-c", self.ZSH, "zsh", str(TOP / "completion"), ""], capture_output=True, text=True,
+                             check=False, timeout=60)
+        for word in ("audit", "check", "gen", "run"):
+            self.assertRegex(run.stdout, rf"{word} +-- ")
+
+    def test_each_shell_has_the_words_of_the_manual(self):
+        script = (TOP / "docs" / "SCRIPT.md").read_text()
+        words = re.findall(r"^\| `([a-z]+)(?: N)?` \| ", script[script.index("## The words"):script.index("## Orders")], re.MULTILINE)
+        self.assertEqual(len(words), 4)
+        for word in words:
+            self.assertRegex((TOP / "completion" / "_smilplay").read_text(), rf"'{word}:")
+            self.assertRegex((TOP / "completion" / "smilplay.fish").read_text(), rf"--arguments {word} ")
 
 
 class Completion(unittest.TestCase):
@@ -101,11 +168,11 @@ class Completion(unittest.TestCase):
         return sorted(run.stdout.split())
 
     def test_words(self):
-        self.assertEqual(self.completed(""), ["check", "gen", "run"])
+        self.assertEqual(self.completed(""), ["audit", "check", "gen", "run"])
         self.assertEqual(self.completed("c"), ["check"])
         self.assertEqual(self.completed("gen", "90"), ["90", "900"])
         self.assertEqual(self.completed("run", ""), [])
-        self.assertEqual(self.completed("run", "<", "kiosk.play."), ["kiosk.play.args", "kiosk.play.stdout"])
+        self.assertEqual(self.completed("run", "<", "kiosk.play."), ["kiosk.play.stdout"])
 
     @unittest.skipUnless(shutil.which("shellcheck"), "no shellcheck")
     def test_shellcheck(self):
@@ -139,7 +206,7 @@ class ManualPage(unittest.TestCase):
         orders = re.findall(r"^\| `(?:NAME )?([a-z]+)[^`]*` \| `",
                             script[script.index("## Orders"):script.index("## A load")], re.MULTILINE)
         self.assertEqual(set(re.findall(r"^\.It (?:Ar name )?Cm ([a-z]+)", self.text, re.MULTILINE)),
-                         set(orders) | {"run", "check", "gen"})
+                         set(orders) | {"run", "check", "gen", "audit"})
         numbers = re.findall(r"^\| ([0-9]) \| ", script[script.index("## The exit number"):], re.MULTILINE)
         self.assertEqual(re.findall(r"^\.It ([0-9])$", self.text, re.MULTILINE), numbers)
 

@@ -3,7 +3,19 @@
 import re
 import unittest
 
-from calling import EXAMPLES, TOOLS, TOP, call
+import places
+from calling import EXAMPLES, TOOLS, TOP, call, program
+
+MODULES = ("transcript.py", "session.py", "timeline_page.py", "smil_xml.py", "smil_book.py", "smil_clock.py",
+           "smil_names.py", "smil_tests.py", "smil_translation.py", "smil_values.py", "smil_wall.py",
+           "smil_choice.py", "smilplay.py", "export_csv.py", "export_vtt.py", "export_otio.py",
+           "timeline_states.py", "timeline_svg.py", "lint_shape.py", "lint_load.py", "lint_document.py", "lint_events.py")
+
+
+def headings_of(page):
+    """The anchors of a page's headings."""
+    return {re.sub(r"[^a-z0-9_ -]", "", line.lower()).strip().replace(" ", "-")
+            for line in re.findall(r"^#+ (.*)$", page.read_text(), re.MULTILINE)}
 
 
 class Pages(unittest.TestCase):
@@ -21,13 +33,43 @@ class Pages(unittest.TestCase):
         for page in (TOP / "docs").iterdir():
             self.assertIn(f"docs/{page.name}", self.readme)
 
-    def test_links_within_a_page_lead_to_a_heading(self):
-        for page in (TOP / "docs").glob("*.md"):
-            text = page.read_text()
-            headings = {re.sub(r"[^a-z0-9 -]", "", line.lower()).strip().replace(" ", "-")
-                        for line in re.findall(r"^#+ (.*)$", text, re.MULTILINE)}
-            for link in re.findall(r"\]\(#([^)]*)\)", text):
-                self.assertIn(link, headings, page.name)
+    def test_links_lead_to_a_file_and_a_heading(self):
+        for page in [*TOP.glob("*.md"), *TOP.glob("*/*.md")]:
+            for path, heading in re.findall(r"\]\(([^)#:]*)(?:#([^)]*))?\)", page.read_text()):
+                to = page.parent / path if path else page
+                self.assertTrue(to.exists(), f"{page.name}: {path}")
+                if heading:
+                    self.assertIn(heading, headings_of(to), f"{page.name}: {path}#{heading}")
+
+    def test_the_rules_name_what_is_there(self):
+        text = places.PAGE.read_text()
+        self.assertGreater(len(list(places.rules_of(text))), 80)
+        self.assertEqual(list(places.faults_of(text)), [])
+
+    def test_the_first_page_is_short(self):
+        self.assertLessEqual(len(self.readme.split()), 700)
+        self.assertLessEqual(len((TOP / "docs" / "PROVED.md").read_text().split()), 3000)
+
+    def test_every_crate_has_its_room_and_what_is_proved_of_it(self):
+        rooms = (TOP / "docs" / "ARCHITECTURE.md").read_text()
+        proved = (TOP / "docs" / "PROVED.md").read_text()
+        for line in (TOP / "crates.txt").read_text().splitlines():
+            crate = line.split(":")[0]
+            self.assertRegex(rooms, rf"(?m)^\|[^|]*`{crate}`")
+            self.assertRegex(proved, rf"(?m)^\|[^|]*\b{crate}\b")
+
+    def test_the_house_has_every_crate_above_those_that_it_depends_on(self):
+        text = (TOP / "docs" / "ARCHITECTURE.md").read_text()
+        floors, floor = {}, 0
+        for line in text[text.index("```house") + 8:].split("```")[0].splitlines()[2:]:
+            words = line.split()
+            floor = int(words.pop(0)) if words[0].isdigit() else floor
+            floors.update(dict.fromkeys(words, floor))
+        uses = dict(line.split(":") for line in (TOP / "crates.txt").read_text().splitlines())
+        self.assertEqual(set(floors), set(uses))
+        for crate, others in uses.items():
+            for other in set(others.split()) & set(floors):
+                self.assertGreater(floors[crate], floors[other], f"{crate} on {other}")
 
     def test_every_example_is_listed(self):
         listed = (EXAMPLES / "README.md").read_text()
@@ -35,13 +77,17 @@ class Pages(unittest.TestCase):
         for session in sessions:
             self.assertIn(f"| `{session.name}` |", listed)
         self.assertEqual(listed.count(".play` |"), len(sessions))
-        self.assertIn(f"| {len(sessions)} sessions", self.readme)
+
+    def test_a_word_that_no_name_has_is_a_fault(self):
+        status, out, err = call(TOOLS / "test.py", "--only", "no name has this", program())
+        self.assertEqual((status, out.splitlines()[-1]), (1, "0 passed, 0 failed"))
+        self.assertIn("nothing has no name has this in its name", err)
 
     def test_every_tool_tells_its_usage(self):
         listed = (TOOLS / "README.md").read_text()
         for tool in sorted(TOOLS.glob("*.py")):
-            self.assertIn(f"| `{tool.name}` |", listed)
-            if tool.name != "transcript.py":
+            self.assertIn(f"`{tool.name}`", listed)
+            if tool.name not in MODULES:
                 status, out, err = call(tool, "--help")
                 self.assertEqual((status, err), (0, ""))
                 self.assertIn(f"usage: {tool.name}", out)

@@ -4,7 +4,7 @@ import unittest
 from pathlib import Path
 
 from calling import TOOLS, call, smilplay
-from smil2outline import milliseconds
+from smil_clock import milliseconds
 
 FILES = sorted((Path(__file__).resolve().parent / "smil").glob("*.smil"))
 

@@ -9,16 +9,16 @@ endif
 syntax case match
 
 " Outlines: a kind behind two spaces for each level, then attributes.
-syntax match smilplayContainer "^ *\(par\|seq\|excl\|priorityClass\)\ze\( \|$\)"
+syntax match smilplayContainer "^ *\(par\|seq\|excl\|priorityClass\|switch\)\ze\( \|$\)"
 syntax match smilplayMedia "^ *\(img\|text\|brush\|audio\|video\|animation\|textstream\|ref\|set\)\ze\( \|$\)"
-syntax match smilplayUnsupported "^ *\(switch\|prefetch\|smilText\|body\)\ze\( \|$\)"
+syntax match smilplayUnsupported "^ *\(prefetch\|smilText\|body\)\ze\( \|$\)"
 syntax match smilplayAttribute "\<[A-Za-z]\+\ze=\"" nextgroup=smilplayEquals
 syntax match smilplayEquals "=" contained
-syntax region smilplayValue start=+"+ end=+"+ oneline contains=smilplayClock,smilplayWord
+syntax region smilplayValue start=+"+ end=+"+ oneline contains=smilplayClock,smilplayWord,smilplayInstant
 syntax match smilplayClock "\<[0-9]\+\(\.[0-9]\+\)\?\(h\|min\|s\|ms\)\?\>" contained
 syntax match smilplayClock "\<\([0-9]\+:\)\?[0-5][0-9]:[0-5][0-9]\(\.[0-9]\+\)\?\>" contained
 let s:words = '\<\(indefinite\|media\|always\|whenNotActive\|never\|default\|inherit\|remove'
-      \ . '\|freeze\|hold\|auto\|last\|first\|all\|stop\|pause\|defer\)\>'
+      \ . '\|freeze\|hold\|auto\|last\|first\|all\|stop\|pause\|defer\|on\|off\)\>'
 execute 'syntax match smilplayWord "' . s:words . '" contained'
 
 " Orders: the presentation's name comes first, but for load and close.
@@ -28,7 +28,12 @@ execute 'syntax match smilplayName "^ *[A-Za-z][A-Za-z0-9_-]*\ze \+' . s:orders 
       \ . ' nextgroup=smilplayOrder skipwhite'
 execute 'syntax match smilplayOrder "' . s:orders . '" contained nextgroup=smilplayClock skipwhite'
 syntax match smilplayLoad "^ *\(load\|close\)\ze " nextgroup=smilplayLoaded skipwhite
-syntax match smilplayLoaded "[A-Za-z][A-Za-z0-9_-]*" contained
+syntax match smilplayLoaded "[A-Za-z][A-Za-z0-9_-]*" contained nextgroup=smilplayAt skipwhite
+syntax match smilplayAt "at\>" contained nextgroup=smilplayInstant skipwhite
+syntax match smilplayInstant "[0-9]\{4}-[0-9][0-9]-[0-9][0-9][0-9T:.Z+-]*" contained
+syntax match smilplayPrefer "^ *prefer\ze \+\(bitrate\|captions\|audiodesc\|language\|screen\|depth\)\>"
+      \ nextgroup=smilplayPreferred skipwhite
+syntax match smilplayPreferred "[a-z]\+" contained
 syntax match smilplayEnd "^ *%% *$"
 syntax match smilplaySerial "#[1-9][0-9]*"
 syntax match smilplayComment "^#.*$"
@@ -38,6 +43,10 @@ highlight default link smilplayOrder Statement
 highlight default link smilplayLoad Statement
 highlight default link smilplayName Identifier
 highlight default link smilplayLoaded Identifier
+highlight default link smilplayAt Statement
+highlight default link smilplayInstant Number
+highlight default link smilplayPrefer Statement
+highlight default link smilplayPreferred Identifier
 highlight default link smilplayEnd Delimiter
 highlight default link smilplaySerial Identifier
 highlight default link smilplayComment Comment
