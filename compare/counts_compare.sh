@@ -2,7 +2,7 @@
 # counts_compare.sh ORACLE [SEED] [CASES]: compares how often the program that ships evaluates
 # intervals with the numbers of the reference model in the folder ORACLE, over so many random
 # sessions: for each accepted order at least its least number and at most its bound. It makes a
-# small program over the same crates in a temporary folder, in whose copy of smil_model the count of
+# small program over the same crates in a temporary folder, in whose copy of smil_interval the count of
 # evaluations is kept when it runs, and runs it by `rt try`, so with checks and unproved. Prints how
 # many orders were compared, the sums of the least numbers, the counts and the bounds, and each
 # order whose count is out of them.
@@ -10,7 +10,7 @@ set -eu
 . "$(dirname "$0")/../bench/program.sh"
 new_program compare_counts smil_live smil_house smil_script
 sed -i 's/^    share: Share<L>,/    share: Share<L>,\n    pub count: u64,/; s/Steps { book, share }/Steps { book, share, count: 0 }/; s/^        self.book.add(&mut self.share, 1);/        self.book.add(\&mut self.share, 1);\n        self.count += 1;/' \
-    "$work/crates/smil_model/src/steps.rt"
+    "$work/crates/smil_interval/src/steps.rt"
 cp "$here/compare/programs/counts_compare.rattle" "$program/src/main.rt"
 with_main
 mkdir "$work/cases"

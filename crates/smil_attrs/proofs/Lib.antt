@@ -14,3 +14,4 @@ pub mod Printed
 pub mod Filled
 pub mod Noded
 pub mod Near
+pub mod Repeating

@@ -2,3 +2,4 @@ pub mod Reads
 pub mod Remainder
 pub mod Writable
 pub mod Within
+pub mod Repeats

@@ -7,6 +7,7 @@ mod kinds;
 mod lines;
 mod names;
 mod nodes;
+mod seen;
 mod shape;
 mod spellings;
 mod values;

@@ -81,7 +81,7 @@ pub fn shape_attrs(
 pub fn shape_kind(shape: &Shape<'_>) -> Result<Kind, NodeFault>
     ensures { result ≡ kind_of_shape (Some shape.now) }
 {
-    if shape.attributes.repeats() {
+    if shape.repeats() {
         return Err(NodeFault::BadOutline);
     }
     match kinds::called(shape.kind) {

@@ -1,10 +1,12 @@
 //! The shape of node lines.
 
-ghost use Rattle.std.specs.Prelude.{◌≡◌, ◌<◌, ◌≤◌, ◌+◌, ◌-◌, ◌^◌, ℕ, Option, List, take, length, option_map, Some, None, IsSome, is_some, bytes_eq, if◌then◌else◌};
+ghost use Rattle.std.specs.Prelude.{◌≡◌, ◌<◌, ◌≤◌, ◌+◌, ◌-◌, ◌^◌, ℕ, Bool, ◌||◌, ◌∷◌, Option, List, take, length, option_map, Some, None, IsSome, bytes_eq, if◌then◌else◌};
 ghost use Rattle.std.specs.List.{prefix_len, list_all, list_any};
 ghost use Rattle.smil_grammar.specs.Nodes.{WrittenAttr as WrittenText, is_no_space, is_of_kind, shaped, shape_of, saved_shape_of, attributes_at, quote_pieces, is_named, attribute_at, repeats as repeats_name};
 ghost use Rattle.smil_attrs.specs.Remainder.{Passes, attributes_in, written_in};
+ghost use Rattle.smil_attrs.specs.Repeats.{twice_from};
 
+use super::seen::SeenNames;
 use smil_lexis::runs;
 use smil_lexis::texts::{behind, cut, is};
 use smil_lexis::utf8::is_utf8;
@@ -110,19 +112,11 @@ impl<'a> Attributes<'a> {
         }
     }
 
-    // Whether all that is left is of the shape of attributes.
-    fn is_shaped(&self) -> bool
-        ensures { result ≡ is_some (attributes_in self.now) }
-    {
-        let mut left = self.again();
-        while left.next().is_some() {}
-        runs::is_spaces(left.text)
-    }
-
-    /// Whether an attribute of this name is left.
+    /// Whether an attribute of this name is left, where all that is left is of the shape of
+    /// attributes.
     pub fn has(&self, name: &[u8]) -> bool
-        requires { IsSome (attributes_in self.now) }
-        ensures { result ≡ list_any (λ (other : WrittenText). bytes_eq other.name name.now)
+        ensures { IsSome (attributes_in self.now) → result
+            ≡ list_any (λ (other : WrittenText). bytes_eq other.name name.now)
             (written_in self.now) }
     {
         let mut left = self.again();
@@ -134,19 +128,40 @@ impl<'a> Attributes<'a> {
         false
     }
 
-    /// Whether two attributes that are left have the same name.
-    pub fn repeats(&self) -> bool
-        requires { IsSome (attributes_in self.now) }
-        ensures { result ≡ repeats_name (written_in self.now) }
+    // Whether two attributes that are left have the same name; none where not all that is left is
+    // of the shape of attributes.
+    fn repeats(&self) -> Option<bool>
+        ensures { result ≡ option_map repeats_name (attributes_in self.now) }
     {
         let mut left = self.again();
+        let mut seen = SeenNames::new();
+        let mut repeats = false;
         while let Some(attribute) = left.next() {
-            if left.has(attribute.name) {
-                return true;
-            }
+            let again = stands_again(&mut seen, attribute.name, &left);
+            repeats = repeats || again;
         }
-        false
+        if runs::is_spaces(left.text) {
+            Some(repeats)
+        } else {
+            None
+        }
     }
+}
+
+// Whether a name stood before or, where it can't be noted as well, stands again in what is left.
+fn stands_again<'a>(seen: &mut SeenNames<'a>, name: &'a [u8], left: &Attributes<'_>) -> bool
+    ensures { IsSome (attributes_in left.now) → (before : Bool) (written : WrittenText)
+        → written.name ≡ name.now
+        → twice_from (before || result) seen.new (written_in left.now)
+        ≡ twice_from before seen.old (written ∷ written_in left.now) }
+{
+    if seen.has(name) {
+        return true;
+    }
+    if seen.put(name) {
+        return false;
+    }
+    left.has(name)
 }
 
 /// The shape of a node line.
@@ -154,18 +169,19 @@ impl<'a> Attributes<'a> {
 pub struct Shape<'a> {
     pub kind: &'a [u8],
     pub attributes: Attributes<'a>,
+    repeats: bool,
 }
 
 impl<'a> Model for Shape<'a> {
-    ghost use Rattle.std.specs.Prelude.{IsSome};
     ghost use Rattle.smil_grammar.specs.Nodes.{Shape as ShapeText};
-    ghost use Rattle.smil_attrs.specs.Remainder.{attributes_in, written_in};
+    ghost use Rattle.smil_attrs.specs.Remainder.{written_in};
+    ghost use Rattle.smil_attrs.specs.Repeats.{IsShaped};
 
     ghost Value = { ShapeText };
 
     ghost view = { λ a. record { kind = a.kind.now; attributes = written_in a.attributes } };
 
-    ghost invariant = { λ a. IsSome (attributes_in a.attributes) };
+    ghost invariant = { λ a. IsShaped a.attributes a.repeats };
 }
 
 // How many bytes stand before the first space or quote.
@@ -185,10 +201,22 @@ impl<'a> Shape<'a> {
         ensures { result ≡ shaped kind.now (attributes_at place (quote_pieces text.now)) }
     {
         let attributes = Attributes { text, place };
-        if kind.is_empty() || !is_utf8(kind) || !attributes.is_shaped() {
+        if kind.is_empty() || !is_utf8(kind) {
             return None;
         }
-        Some(Shape { kind, attributes })
+        let repeats = attributes.repeats()?;
+        Some(Shape {
+            kind,
+            attributes,
+            repeats,
+        })
+    }
+
+    /// Whether two attributes have the same name.
+    pub fn repeats(&self) -> bool
+        ensures { result ≡ repeats_name self.now.attributes }
+    {
+        self.repeats
     }
 
     /// The shape of a node line without leading spaces, where it has it.

@@ -9,7 +9,8 @@ ghost use Rattle.smil_audit.specs.Replayed.{place_after};
 
 use super::placed::{logged, placed_len};
 use super::replay::{Agreement, Replay};
-use smil_model::{Diary, Doc, Duplicate, Log, Steps};
+use smil_interval::Steps;
+use smil_model::{Diary, Doc, Duplicate, Log};
 use std::alloc::{AllocError, Global};
 use std::sync::ledger::Ledger;
 

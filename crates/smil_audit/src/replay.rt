@@ -17,12 +17,13 @@ ghost use Rattle.smil_audit.specs.Steps.{AgreesTo, IsReplay, MayTakeIn, TakenIn,
 use super::entries::agreed;
 use smil_due::least_scan;
 use smil_element::{DueChange, Parts, Present, Room, group_of};
+use smil_interval::Steps;
 use smil_laws::courses::reached_is_past;
 use smil_laws::firsts::first_is_of_element;
 use smil_laws::laws::quiet_may_be_jumped;
 use smil_laws::near::resolved_is_near;
 use smil_laws::stays::time_passes_quietly;
-use smil_model::{Doc, Entry, Key, Log, Step, Steps};
+use smil_model::{Doc, Entry, Key, Log, Step};
 use smil_past::Past;
 use smil_rounds::current_rows::{CurrentRow, CurrentRows, IndexedElement, row_of};
 use smil_rounds::groups::{append_all, fill_group};

@@ -22,7 +22,6 @@ use Rattle.smil_laws.proofs.ResolvedSteps.{resolved_lawful}
 use Rattle.smil_diary.specs.declared.fault.BookFault.{BookFault}
 use Rattle.smil_laws.specs.Courses.{ReachedIsPast}
 use Rattle.smil_laws.specs.Near.{AllNear, ResolvedIsNear}
-use Rattle.smil_laws.specs.Seen.{LeavesViews, any_shows}
 use Rattle.smil_model.specs.document.Closure.{has}
 use Rattle.smil_model.specs.interval.Current.{current_interval}
 use Rattle.smil_laws.proofs.Numbered.{ordered}
@@ -37,6 +36,8 @@ use Rattle.smil_past.specs.Past.{MarkedHistory, IsPresent, with_diary}
 use Rattle.smil_cells.specs.CellsState.{IsFront, IsNext, IsReached, WhereTold, first_at, fresh, fresh_since}
 use Rattle.smil_rounds.specs.Appended.{MayAppendAll}
 use Rattle.smil_cells.specs.Standings.{begun, standing_of}
+use Rattle.smil_cells.specs.Shown.{any_shows}
+use Rattle.smil_cells.proofs.Resting.{views_stay}
 use Rattle.smil_model.proofs.Orders.{is_le}
 use Rattle.smil_laws.proofs.Cutting.{one_more}
 
@@ -176,15 +177,15 @@ module _ (past : MarkedHistory) (m : ℤ) (next : DueChange) (comes : ComesNext 
 
 -- the elements that they show are listed
 abbrev pub AreShown : ℕ → List ℕ → MarkedHistory → Type 0
-AreShown start mid x = (e : Node) → node_at (elements x.document.nodes) e.serial ≡ Some e → any_shows x.document.nodes x.log (drop start x.diary) e.serial ≡ true → has mid e.serial ≡ true
+AreShown start mid x = (e : Node) → node_at (elements x.document.nodes) e.serial ≡ Some e → any_shows (past_of.history_of x) (drop start x.diary) e.serial ≡ true → has mid e.serial ≡ true
 
 -- what was listed still is
 abbrev pub StayListed : List ℕ → List ℕ → MarkedHistory → Type 0
 StayListed touched mid x = (e : Node) → node_at (elements x.document.nodes) e.serial ≡ Some e → has touched e.serial ≡ true → has mid e.serial ≡ true
 
--- the intervals of those that are not listed are as they were before
+-- the intervals of those elements that are not listed are as they were before
 abbrev pub StayBefore : ℤ → ℕ → List ℕ → MarkedHistory → Type 0
-StayBefore z start others x = (s : ℕ) → has others s ≡ false → current_interval (past_of.history_of x) z s ≡ current_interval (past_of.front x start) z s
+StayBefore z start others x = (e : Node) → node_at (elements x.document.nodes) e.serial ≡ Some e → has others e.serial ≡ false → current_interval (past_of.history_of x) z e.serial ≡ current_interval (past_of.front x start) z e.serial
 
 -- at most so many elements have a fresh interval
 abbrev pub AreFresh : ℤ → ℕ → Bool → ℕ → MarkedHistory → Type 0
@@ -205,7 +206,7 @@ module _ (past : MarkedHistory) (m z : ℤ) (steps : List Step) (fault : Option 
   rest_is : drop start (past.diary ++ at_moment m steps) ≡ at_moment m steps
   rest_is = rw begins (drop-append_seam past.diary (at_moment m steps))
 
-  module _ (leaves : LeavesViews) (numbered : IsNumberedTree past.document) (lens : (l : ℕ × ℕ) → past.marked ≡ Some l → (l.0 ≤ length past.log) × (l.1 ≤ length past.diary)) (step : next_step (course_on past.document.nodes past.log (nat_abs m)) (record { moment = nat_abs m; heard = length past.log; diary = past.diary }) ≡ Some (record { moment = nat_abs m; heard = length past.log; diary = past.diary ++ at_moment m steps })) (grows : length past.diary < length (past.diary ++ at_moment m steps)) (two : (s : ℕ) → has mid s ≡ true → has others s ≡ true) where
+  module _ (numbered : IsNumberedTree past.document) (lens : (l : ℕ × ℕ) → past.marked ≡ Some l → (l.0 ≤ length past.log) × (l.1 ≤ length past.diary)) (step : next_step (course_on past.document.nodes past.log (nat_abs m)) (record { moment = nat_abs m; heard = length past.log; diary = past.diary }) ≡ Some (record { moment = nat_abs m; heard = length past.log; diary = past.diary ++ at_moment m steps })) (grows : length past.diary < length (past.diary ++ at_moment m steps)) (two : (s : ℕ) → has mid s ≡ true → has others s ≡ true) where
     came : length after.diary ≤ DIARY_ENTRIES → StayListed touched mid after → AreShown start mid after → StayBefore z start others after → Came after
     came few one shown changed = record {
       presentation_is = refl;
@@ -217,11 +218,11 @@ module _ (past : MarkedHistory) (m z : ℤ) (steps : List Step) (fault : Option 
       marked = same_mark past after (with_entries past after (at_moment m steps) refl) lens mark;
       more = λ e there q. two e.serial (one e there q);
       views = λ e there free.
-          leaves (record { nodes = past.document.nodes; log = past.log; diary = past.diary }) (at_moment m steps) (pos (nat_abs m)) e (ordered past.document numbered).first there
-          (untouched (any_shows past.document.nodes past.log (at_moment m steps) e.serial) (has others e.serial) free
-          (λ q. two e.serial (shown e there (subst (λ (l : List Entry). any_shows past.document.nodes past.log l e.serial ≡ true) (sym rest_is) q))))
+          views_stay (past_of.history_of past) (at_moment m steps) (pos (nat_abs m)) e (ordered past.document numbered).first there
+          (untouched (any_shows (past_of.history_of after) (at_moment m steps) e.serial) (has others e.serial) free
+          (λ q. two e.serial (shown e there (subst (λ (l : List Entry). any_shows (past_of.history_of after) l e.serial ≡ true) (sym rest_is) q))))
           (subst (λ (x : ℤ). current_interval (record { nodes = past.document.nodes; log = past.log; diary = past.diary ++ at_moment m steps }) x e.serial ≡ current_interval (record { nodes = past.document.nodes; log = past.log; diary = past.diary }) x e.serial) here
-          (changed e.serial free ∙ ap (λ (l : List Entry). current_interval (record { nodes = past.document.nodes; log = past.log; diary = l }) z e.serial) front_is));
+          (changed e there free ∙ ap (λ (l : List Entry). current_interval (record { nodes = past.document.nodes; log = past.log; diary = l }) z e.serial) front_is));
     }
 
     pub came_to : (new : MarkedHistory) → new ≡ after → length new.diary ≤ DIARY_ENTRIES → StayListed touched mid new → AreShown start mid new → StayBefore z start others new → Came new

@@ -24,7 +24,6 @@ use Rattle.smil_laws.specs.Courses.{ReachedIsPast, ReachesFurther}
 use Rattle.smil_laws.specs.Cut.{NamesBelow}
 use Rattle.smil_laws.specs.Near.{AllNear, ResolvedIsNear}
 use Rattle.smil_laws.specs.Same.{IsSame, LogMayBeLonger}
-use Rattle.smil_laws.specs.Seen.{LeavesViews, any_shows}
 use Rattle.smil_laws.proofs.Numbered.{ordered}
 use Rattle.smil_laws.proofs.ResolvedSteps.{resolved_lawful}
 use Rattle.smil_diary.specs.declared.fault.BookFault.{BookFault}
@@ -36,6 +35,8 @@ use Rattle.smil_cells.proofs.Heard.{reached_heard}
 use Rattle.smil_rounds.proofs.Heeded.{log_with, logged_one}
 use Rattle.smil_cells.proofs.Longer.{same_mark, with_entry}
 use Rattle.smil_cells.proofs.OnWay.{untouched, is_fresh}
+use Rattle.smil_cells.specs.Shown.{any_shows}
+use Rattle.smil_cells.proofs.Resting.{views_stay}
 use Rattle.smil_cells.proofs.Grown.{AreShown, StayListed, StayBefore, AreFresh}
 use Rattle.smil_model.proofs.Orders.{le_self, le_from}
 use Rattle.smil_element.specs.Comings.{coming_stays}
@@ -165,7 +166,7 @@ module _ (past : MarkedHistory) (m : ℤ) (entry : LogEntry) (fault : Option Boo
         abbrev Came : MarkedHistory → Type 0
         Came x = IsHeard was entry (standing_of x m None mark others)
 
-        module _ (leaves : LeavesViews) (lens : (l : ℕ × ℕ) → past.marked ≡ Some l → (l.0 ≤ length past.log) × (l.1 ≤ length past.diary)) (two : (s : ℕ) → has mid s ≡ true → has others s ≡ true) where
+        module _ (lens : (l : ℕ × ℕ) → past.marked ≡ Some l → (l.0 ≤ length past.log) × (l.1 ≤ length past.diary)) (two : (s : ℕ) → has mid s ≡ true → has others s ≡ true) where
           came : StayListed touched mid later → AreShown start mid later → StayBefore z start others later → Came later
           came one shown changed = record {
             presentation_is = refl;
@@ -174,11 +175,11 @@ module _ (past : MarkedHistory) (m : ℤ) (entry : LogEntry) (fault : Option Boo
             marked = same_mark past later (with_entry past later entry refl) lens mark;
             more = λ e there q. two e.serial (one e there q);
             views = λ e there free.
-                leaves h' (line ∷ []) (pos now) e (ordered past.document state.document.numbered).first there
-                (untouched (any_shows past.document.nodes (past.log ++ entry ∷ []) (line ∷ []) e.serial) (has others e.serial) free
-                (λ q. two e.serial (shown e there (subst (λ (l : List Entry). any_shows past.document.nodes (past.log ++ entry ∷ []) l e.serial ≡ true) (sym rest_is) q))))
+                views_stay h' (line ∷ []) (pos now) e (ordered past.document state.document.numbered).first there
+                (untouched (any_shows (past_of.history_of later) (line ∷ []) e.serial) (has others e.serial) free
+                (λ q. two e.serial (shown e there (subst (λ (l : List Entry). any_shows (past_of.history_of later) l e.serial ≡ true) (sym rest_is) q))))
                 (subst (λ (v : ℤ). current_interval (past_of.history_of later) v e.serial ≡ current_interval h' v e.serial) at_now
-                (changed e.serial free ∙ ap (λ (d : List Entry). current_interval (record { nodes = past.document.nodes; log = past.log ++ entry ∷ []; diary = d }) z e.serial) front_is))
+                (changed e there free ∙ ap (λ (d : List Entry). current_interval (record { nodes = past.document.nodes; log = past.log ++ entry ∷ []; diary = d }) z e.serial) front_is))
                 ∙ (same_heard law longer_law).view e;
           }
 

@@ -4,9 +4,12 @@ pub mod Refusals
 pub mod OnWay
 pub mod Longer
 pub mod Grown
+pub mod Putting
 pub mod Heard
 pub mod Hearing
 pub mod Onward
+pub mod Displacing
+pub mod Resting
 pub mod Showing
 pub mod Parting
 pub mod Ordering

@@ -28,6 +28,7 @@ use Rattle.smil_diary.specs.declared.fault.BookFault.{BookFault}
 use Rattle.smil_past.specs.Past.{MarkedHistory}
 use Rattle.smil_cells.specs.Standings.{IsSoundUnderMark, WhereMarked, marked_by, standing_of}
 use Rattle.smil_laws.specs.Same.{IsSame}
+use Rattle.smil_cells.specs.Shown.{touched_at}
 use Rattle.smil_cells.specs.CellsState.{CellsState, is_same_interval, fresh, IsOnWay, IsPassed, IsNext, IsFront, GoesOn, StayTouched, WhereTold, history_of, reached_since, fresh_since, interval_at}
 use Rattle.std.proofs.lemmas.Bool.{and_parts}
 use Rattle.smil_model.proofs.Orders.{le_exact, le_self, time_exact, time_self}
@@ -266,6 +267,24 @@ touched_anew is_current is_marked has_mark past moment fault mark touched others
     by_mark None k = k
     by_mark (Some m) k = record { state = k.state; reached = k.reached; current = k.current }
 
+-- other elements are touched, and a refusal is answered
+pub touched_refused : (is_current is_marked : History → ℤ → Type 0) (has_mark : Bool) (past : MarkedHistory) (moment : ℤ) (fault : Option BookFault) (mark : Option ℤ) (touched others : List ℕ) (f : BookFault)
+    → IsSoundUnderMark is_current is_marked has_mark past moment fault mark touched → IsSoundUnderMark is_current is_marked has_mark past moment (Some f) mark others
+touched_refused is_current is_marked has_mark past moment fault mark touched others f kept = record {
+  present = kept.present;
+  log = kept.log;
+  sound = λ never. cc;
+  marked = by_mark (marked_by past mark past.marked) kept.marked;
+  table_mark = kept.table_mark;
+  past_mark = kept.past_mark;
+  mark_from = kept.mark_from;
+  lens = kept.lens;
+}
+  where
+    by_mark : (m : Option (Presentation × List Entry)) → WhereMarked is_marked touched m → WhereMarked is_marked others m
+    by_mark None k = k
+    by_mark (Some m) k = record { state = k.state; reached = k.reached; current = k.current }
+
 -- the standing at rest, later and with its elements in order
 pub record IsRest (s t : CellsState) : Type 0 where
   pub presentation_is : t.presentation ≡ as_of s.presentation t.presentation.now
@@ -373,3 +392,9 @@ pub goes_on_from : {A : Type 0} (past : MarkedHistory) (moment : ℤ) (fault : O
     → OnOk r (GoesOn (standing_of past moment fault mark others) new) → OnOk r (GoesOn (standing_of past moment fault mark touched) new)
 goes_on_from past moment fault mark touched others new (Ok x) q = record { diary = q.diary; sound = q.sound; marked = q.marked; touched = q.touched; views = q.views }
 goes_on_from past moment fault mark touched others new (Err f) q = q
+
+pub goes_on_new : (old : CellsState) (places : List ℕ) (new : CellsState) → GoesOn (touched_at old places) new → GoesOn old new
+goes_on_new old places new q = record { diary = q.diary; sound = q.sound; marked = q.marked; touched = q.touched; views = q.views }
+
+pub goes_on_at : (old : CellsState) (places : List ℕ) (new : CellsState) → GoesOn old new → GoesOn (touched_at old places) new
+goes_on_at old places new q = record { diary = q.diary; sound = q.sound; marked = q.marked; touched = q.touched; views = q.views }

@@ -1,37 +1,31 @@
--- The elements in whose views a step shows, among the serials that are appended.
-use Rattle.std.proofs.Common.{◌≡◌, refl, sym, ◌∙◌, ap, subst, ℕ, zero, suc, ◌+◌, ◌-◌, ◌≤◌, List, [], ◌∷◌, ◌++◌, Option, Some, None, Bool, true, false, inl, inr, arith, length, take, drop, filter, reverse, eqb-true}
+-- The elements in whose views a step shows, among those at the places that are put in.
+use Rattle.std.proofs.Common.{◌≡◌, refl, sym, ◌∙◌, ap, subst, ℕ, zero, suc, ◌+◌, ◌-◌, ◌≤◌, List, [], ◌∷◌, Option, Some, None, Bool, true, false, inl, inr, arith, length, take, drop, filter, reverse, eqb-true}
 use Rattle.std.specs.Prelude.{◌⊎◌, ◌&&◌, ◌||◌, ◌==◌, cond, find, is_some, slice_get}
 use Rattle.std.specs.List.{list_any, position}
 use Rattle.std.proofs.lemmas.Option.{same_Some}
-use Rattle.std.proofs.lemmas.List.Folds.{list_any-append}
 use Rattle.std.proofs.lemmas.List.Sorted.{list_any-IsPermutation, IsPermutation-reverse}
 use Rattle.smil_model.specs.declared.diary.Entry.{Entry}
-use Rattle.smil_model.specs.declared.diary.LogEntry.{LogEntry}
 use Rattle.smil_model.specs.declared.diary.Step.{Step}
 use Rattle.smil_model.specs.declared.document.Kind.{Kind}
 use Rattle.smil_model.specs.declared.document.Node.{Node}
-use Rattle.smil_model.specs.document.Document.{Document, elements, is_element, is_excl_kind, is_seq_kind, is_in_seq, is_in_excl, is_within, has_kind, node_at, serial_of, serials, time_parent, upwards}
+use Rattle.smil_model.specs.document.Document.{elements, is_element, is_excl_kind, is_seq_kind, is_within, node_at, serial_of, serials, time_children, time_parent, upwards}
 use Rattle.smil_model.specs.document.Closure.{has}
 use Rattle.smil_model.specs.document.Valid.{kind_of}
-use Rattle.smil_model.specs.reach.Reach.{shares_parent, subject_of}
-use Rattle.smil_laws.specs.Seen.{any_shows, shows_from, shows_in, starts}
+use Rattle.smil_model.specs.diary.Diary.{History}
+use Rattle.smil_model.specs.reach.Reach.{subject_of}
+use Rattle.smil_laws.specs.Seen.{starts}
 use Rattle.smil_past.proofs.Listing.{known_place}
 use Rattle.smil_element.proofs.Above.{IsUp}
-use Rattle.smil_cells.specs.Shown.{displaced_in, sequenced}
-use Rattle.std.proofs.lemmas.Bool.{or_cases, or_left, or_parts, or_right}
+use Rattle.smil_cells.specs.Shown.{AreWithinPut, StayIn, any_rests, any_shows, displaced_in, elements_at, may_rest, rests_under, sequenced, shows_from, shows_in}
+use Rattle.smil_cells.proofs.Ordering.{still_stands}
+use Rattle.std.proofs.lemmas.Bool.{and_parts, or_cases, or_left, or_parts, or_right}
 use Rattle.smil_instances.proofs.Targets.{known_node}
 
 or_none : (a b : Bool) → a ≡ false → b ≡ false → a || b ≡ false
 or_none true b p q = cc
 or_none false b p q = q
 
--- ---- what is appended
-
-pub has_left : (xs ys : List ℕ) (s : ℕ) → has xs s ≡ true → has (xs ++ ys) s ≡ true
-has_left xs ys s q = list_any-append (λ (y : ℕ). y == s) xs ys ∙ or_left (has xs s) (has ys s) q
-
-pub has_right : (xs ys : List ℕ) (s : ℕ) → has ys s ≡ true → has (xs ++ ys) s ≡ true
-has_right xs ys s q = list_any-append (λ (y : ℕ). y == s) xs ys ∙ or_right (has xs s) (has ys s) q
+-- ---- who is within
 
 -- a node that passes is among those that pass
 there : (test : ℕ → Bool) (ns : List Node) (s : ℕ) → is_some (node_at ns s) ≡ true → test s ≡ true → has (serials (filter (λ (n : Node). test n.serial) ns)) s ≡ true
@@ -96,43 +90,15 @@ none_above nodes x q =
     ap (λ (l : List Node). find is_element (drop 1 l))
     (none_up x (reverse nodes) (sym (list_any-IsPermutation (λ (a : Node). a.serial == x) nodes (reverse nodes) (IsPermutation-reverse nodes)) ∙ none_any x nodes q))
 
--- ---- where a step shows besides
-
-pub split_shows : (nodes : List Node) (step : Step) (x s : ℕ) → shows_in nodes step x s ≡ (is_within nodes x s || shares_parent nodes (displaced_in nodes step x) s)
-split_shows nodes step x s = ap (λ (b : Bool). is_within nodes x s || b) (by_start (starts step))
-  where
-    by_kind : (a b c : Bool) (p : Node) → c ≡ is_within nodes p.serial s → (a || b) && c ≡ shares_parent nodes (cond (a || b) (Some p) None) s
-    by_kind true b c p e = e
-    by_kind false true c p e = e
-    by_kind false false c p e = refl
-
-    by_parent : (o : Option Node) → (has_kind is_seq_kind o || has_kind is_excl_kind o) && shares_parent nodes o s ≡ shares_parent nodes (sequenced o) s
-    by_parent None = refl
-    by_parent (Some p) = by_kind (is_seq_kind p.kind) (is_excl_kind p.kind) (is_within nodes p.serial s) p refl
-
-    by_start : (b : Bool) → b && (is_in_seq nodes x || is_in_excl nodes x) && shares_parent nodes (time_parent nodes x) s ≡ shares_parent nodes (cond b (sequenced (time_parent nodes x)) None) s
-    by_start false = refl
-    by_start true = by_parent (time_parent nodes x)
-
-pub shares_there : (nodes : List Node) (o : Option Node) (parent : ℕ) (e : Node) → Some parent ≡ serial_of o → node_at (elements nodes) e.serial ≡ Some e → shares_parent nodes o e.serial ≡ true
-    → has (serials (filter (λ (n : Node). is_within nodes parent n.serial) nodes)) e.serial ≡ true
-shares_there nodes None parent e is here q = cc
-shares_there nodes (Some p) parent e is here q =
-    within_there nodes parent e here (subst (λ (k : ℕ). is_within nodes k e.serial ≡ true) (sym (same_Some parent p.serial is)) q)
-
-pub shares_none : (nodes : List Node) (o : Option Node) (s : ℕ) → None ≡ serial_of o → shares_parent nodes o s ≡ false
-shares_none nodes None s is = refl
-shares_none nodes (Some p) s is = cc
+-- ---- where a step shows
 
 -- a step of a serial that no node has shows nowhere
-pub no_node_shows : (nodes : List Node) (step : Step) (x s : ℕ) → is_some (node_at nodes x) ≡ false → shows_in nodes step x s ≡ false
-no_node_shows nodes step x s q =
-    split_shows nodes step x s
-    ∙ (ap (λ (b : Bool). b || shares_parent nodes (displaced_in nodes step x) s) (no_node_within nodes x s q)
-    ∙ (ap (λ (o : Option Node). shares_parent nodes (cond (starts step) (sequenced o) None) s) (none_above nodes x q)
-    ∙ by_start (starts step)))
+pub no_node_shows : (h : History) (step : Step) (x s : ℕ) → is_some (node_at h.nodes x) ≡ false → shows_in h step x s ≡ false
+no_node_shows h step x s q =
+    or_none (is_within h.nodes x s) (rests_under h (displaced_in h.nodes step x) s) (no_node_within h.nodes x s q)
+    (ap (λ (o : Option Node). rests_under h (cond (starts step) (sequenced o) None) s) (none_above h.nodes x q) ∙ by_start (starts step))
   where
-    by_start : (b : Bool) → shares_parent nodes (cond b None None) s ≡ false
+    by_start : (b : Bool) → rests_under h (cond b None None) s ≡ false
     by_start true = refl
     by_start false = refl
 
@@ -167,75 +133,125 @@ none_displaced nodes step who q = by_start (starts step) (by_parent (time_parent
 abbrev pub entries_from : List Entry → ℕ → List Entry
 entries_from entries from = take (length entries - from) (drop from entries)
 
-pub shows_first : (nodes : List Node) (log : List LogEntry) (diary : List Entry) (place s : ℕ) (x : Entry) → slice_get diary place ≡ Some x → any_shows nodes log (drop place diary) s ≡ true
-    → (shows_from nodes x.step (subject_of log x.step) s ≡ true) ⊎ (any_shows nodes log (drop (place + 1) diary) s ≡ true)
-shows_first nodes log [] place s x here q = cc
-shows_first nodes log (y ∷ ys) zero s x here q =
+pub shows_first : (h : History) (diary : List Entry) (place s : ℕ) (x : Entry) → slice_get diary place ≡ Some x → any_shows h (drop place diary) s ≡ true
+    → (shows_from h x.step (subject_of h.log x.step) s ≡ true) ⊎ (any_shows h (drop (place + 1) diary) s ≡ true)
+shows_first h [] place s x here q = cc
+shows_first h (y ∷ ys) zero s x here q =
     let same : y ≡ x = cc in
-    subst (λ (z : Entry). (shows_from nodes z.step (subject_of log z.step) s ≡ true) ⊎ (any_shows nodes log (drop 1 (y ∷ ys)) s ≡ true)) same
-    (or_cases (shows_from nodes y.step (subject_of log y.step) s) (any_shows nodes log (drop 0 ys) s) (whole ys q))
+    subst (λ (z : Entry). (shows_from h z.step (subject_of h.log z.step) s ≡ true) ⊎ (any_shows h (drop 1 (y ∷ ys)) s ≡ true)) same
+    (or_cases (shows_from h y.step (subject_of h.log y.step) s) (any_shows h (drop 0 ys) s) (whole ys q))
   where
-    whole : (zs : List Entry) → any_shows nodes log (y ∷ zs) s ≡ true → shows_from nodes y.step (subject_of log y.step) s || any_shows nodes log (drop 0 zs) s ≡ true
+    whole : (zs : List Entry) → any_shows h (y ∷ zs) s ≡ true → shows_from h y.step (subject_of h.log y.step) s || any_shows h (drop 0 zs) s ≡ true
     whole [] p = p
     whole (z ∷ zs) p = p
-shows_first nodes log (y ∷ ys) (suc place) s x here q =
-    subst (λ (k : ℕ). (shows_from nodes x.step (subject_of log x.step) s ≡ true) ⊎ (any_shows nodes log (drop k (y ∷ ys)) s ≡ true)) (next place)
-    (shows_first nodes log ys place s x here q)
+shows_first h (y ∷ ys) (suc place) s x here q =
+    subst (λ (k : ℕ). (shows_from h x.step (subject_of h.log x.step) s ≡ true) ⊎ (any_shows h (drop k (y ∷ ys)) s ≡ true)) (next place)
+    (shows_first h ys place s x here q)
   where
     next : (n : ℕ) → suc (n + 1) ≡ suc n + 1
     next n = omega arith
 
-pub none_shows : (nodes : List Node) (log : List LogEntry) (diary : List Entry) (place s : ℕ) → length diary ≤ place → any_shows nodes log (drop place diary) s ≡ false
-none_shows nodes log [] zero s l = refl
-none_shows nodes log [] (suc place) s l = refl
-none_shows nodes log (y ∷ ys) zero s l = absurd (omega (arith, l))
-none_shows nodes log (y ∷ ys) (suc place) s l = none_shows nodes log ys place s (omega (arith, l))
+pub none_shows : (h : History) (diary : List Entry) (place s : ℕ) → length diary ≤ place → any_shows h (drop place diary) s ≡ false
+none_shows h [] zero s l = refl
+none_shows h [] (suc place) s l = refl
+none_shows h (y ∷ ys) zero s l = absurd (omega (arith, l))
+none_shows h (y ∷ ys) (suc place) s l = none_shows h ys place s (omega (arith, l))
 
 -- one entry more was touched
-pub more_shown : (document tree : Document) (log told : List LogEntry) (diary : List Entry) (place : ℕ) (x : Entry) (before after : List ℕ) (e : Node) → tree ≡ document → told ≡ log → slice_get diary place ≡ Some x
-    → ((s : ℕ) → has before s ≡ true → has after s ≡ true)
-    → ((n : Node) → node_at (elements tree.nodes) n.serial ≡ Some n → shows_from tree.nodes x.step (subject_of told x.step) n.serial ≡ true → has after n.serial ≡ true)
-    → node_at (elements document.nodes) e.serial ≡ Some e
-    → (has before e.serial ≡ true) ⊎ (any_shows document.nodes log (drop place diary) e.serial ≡ true)
-    → (has after e.serial ≡ true) ⊎ (any_shows document.nodes log (drop (place + 1) diary) e.serial ≡ true)
-more_shown document tree log told diary place x before after e is_tree is_log at more shown here (inl p) = inl (more e.serial p)
-more_shown document tree log told diary place x before after e is_tree is_log at more shown here (inr q) =
-    by_first (shows_first document.nodes log diary place e.serial x at q)
-    (subst (λ (d : Document). (n : Node) → node_at (elements d.nodes) n.serial ≡ Some n → shows_from d.nodes x.step (subject_of log x.step) n.serial ≡ true → has after n.serial ≡ true) is_tree
-    (subst (λ (l : List LogEntry). (n : Node) → node_at (elements tree.nodes) n.serial ≡ Some n → shows_from tree.nodes x.step (subject_of l x.step) n.serial ≡ true → has after n.serial ≡ true) is_log shown))
+pub more_shown : (h : History) (diary : List Entry) (place : ℕ) (x : Entry) (before after : List ℕ) (e : Node) → slice_get diary place ≡ Some x → StayIn before after
+    → ((n : Node) → node_at (elements h.nodes) n.serial ≡ Some n → shows_from h x.step (subject_of h.log x.step) n.serial ≡ true → has (elements_at h.nodes after) n.serial ≡ true)
+    → node_at (elements h.nodes) e.serial ≡ Some e
+    → (has (elements_at h.nodes before) e.serial ≡ true) ⊎ (any_shows h (drop place diary) e.serial ≡ true)
+    → (has (elements_at h.nodes after) e.serial ≡ true) ⊎ (any_shows h (drop (place + 1) diary) e.serial ≡ true)
+more_shown h diary place x before after e at more shown here (inl p) = inl (still_stands h.nodes before after more e.serial p)
+more_shown h diary place x before after e at more shown here (inr q) = by_first (shows_first h diary place e.serial x at q)
   where
-    by_first : (shows_from document.nodes x.step (subject_of log x.step) e.serial ≡ true) ⊎ (any_shows document.nodes log (drop (place + 1) diary) e.serial ≡ true)
-        → ((n : Node) → node_at (elements document.nodes) n.serial ≡ Some n → shows_from document.nodes x.step (subject_of log x.step) n.serial ≡ true → has after n.serial ≡ true)
-        → (has after e.serial ≡ true) ⊎ (any_shows document.nodes log (drop (place + 1) diary) e.serial ≡ true)
-    by_first (inl r) f = inl (f e here r)
-    by_first (inr r) f = inr r
+    by_first : (shows_from h x.step (subject_of h.log x.step) e.serial ≡ true) ⊎ (any_shows h (drop (place + 1) diary) e.serial ≡ true) → (has (elements_at h.nodes after) e.serial ≡ true) ⊎ (any_shows h (drop (place + 1) diary) e.serial ≡ true)
+    by_first (inl r) = inl (shown e here r)
+    by_first (inr r) = inr r
 
-pub all_shown : (nodes : List Node) (log : List LogEntry) (diary : List Entry) (place s : ℕ) (touched : List ℕ) → length diary ≤ place → (has touched s ≡ true) ⊎ (any_shows nodes log (drop place diary) s ≡ true) → has touched s ≡ true
-all_shown nodes log diary place s touched l (inl p) = p
-all_shown nodes log diary place s touched l (inr q) = let never : false ≡ true = sym (none_shows nodes log diary place s l) ∙ q in cc
+pub all_shown : (h : History) (diary : List Entry) (place s : ℕ) (touched : List ℕ) → length diary ≤ place → (has touched s ≡ true) ⊎ (any_shows h (drop place diary) s ≡ true) → has touched s ≡ true
+all_shown h diary place s touched l (inl p) = p
+all_shown h diary place s touched l (inr q) = let never : false ≡ true = sym (none_shows h diary place s l) ∙ q in cc
 
--- ---- an element and its siblings
+-- ---- the children that may rest, one after another
 
-abbrev within_of : List Node → ℕ → List ℕ
-within_of nodes x = serials (filter (λ (n : Node). is_within nodes x n.serial) nodes)
+-- an element within a child that may rest is put in, or such a child is left
+abbrev pub ArePutUpTo : History → List Node → ℕ → List ℕ → Type 0
+ArePutUpTo h children place places =
+    (e : Node) → node_at (elements h.nodes) e.serial ≡ Some e → any_rests h children e.serial ≡ true
+    → (has (elements_at h.nodes places) e.serial ≡ true) ⊎ (any_rests h (drop place children) e.serial ≡ true)
 
-pub shown_alone : (nodes : List Node) (step : Step) (x : ℕ) (old mid : List ℕ) → mid ≡ old ++ within_of nodes x → None ≡ serial_of (displaced_in nodes step x)
-    → (e : Node) → node_at (elements nodes) e.serial ≡ Some e → shows_in nodes step x e.serial ≡ true → has mid e.serial ≡ true
-shown_alone nodes step x old mid made none e here q = by_case (or_cases (is_within nodes x e.serial) (shares_parent nodes (displaced_in nodes step x) e.serial) (sym (split_shows nodes step x e.serial) ∙ q))
+rests_first : (h : History) (children : List Node) (place s : ℕ) (n : Node) → slice_get children place ≡ Some n → any_rests h (drop place children) s ≡ true
+    → ((may_rest h n && is_within h.nodes n.serial s) ≡ true) ⊎ (any_rests h (drop (place + 1) children) s ≡ true)
+rests_first h [] place s n here q = cc
+rests_first h (m ∷ ms) zero s n here q =
+    let same : m ≡ n = cc in
+    subst (λ (z : Node). ((may_rest h z && is_within h.nodes z.serial s) ≡ true) ⊎ (any_rests h (drop 1 (m ∷ ms)) s ≡ true)) same
+    (or_cases (may_rest h m && is_within h.nodes m.serial s) (any_rests h (drop 0 ms) s) (whole ms q))
   where
-    by_case : (is_within nodes x e.serial ≡ true) ⊎ (shares_parent nodes (displaced_in nodes step x) e.serial ≡ true) → has mid e.serial ≡ true
-    by_case (inl p) = ap (λ (l : List ℕ). has l e.serial) made ∙ has_right old (within_of nodes x) e.serial (within_there nodes x e here p)
-    by_case (inr p) = let never : false ≡ true = sym (shares_none nodes (displaced_in nodes step x) e.serial none) ∙ p in cc
-
-pub shown_beside : (nodes : List Node) (step : Step) (x parent : ℕ) (old mid new : List ℕ) → mid ≡ old ++ within_of nodes x → Some parent ≡ serial_of (displaced_in nodes step x) → new ≡ mid ++ within_of nodes parent
-    → (e : Node) → node_at (elements nodes) e.serial ≡ Some e → shows_in nodes step x e.serial ≡ true → has new e.serial ≡ true
-shown_beside nodes step x parent old mid new made some more e here q = by_case (or_cases (is_within nodes x e.serial) (shares_parent nodes (displaced_in nodes step x) e.serial) (sym (split_shows nodes step x e.serial) ∙ q))
+    whole : (zs : List Node) → any_rests h (m ∷ zs) s ≡ true → (may_rest h m && is_within h.nodes m.serial s) || any_rests h (drop 0 zs) s ≡ true
+    whole [] p = p
+    whole (z ∷ zs) p = p
+rests_first h (m ∷ ms) (suc place) s n here q =
+    subst (λ (k : ℕ). ((may_rest h n && is_within h.nodes n.serial s) ≡ true) ⊎ (any_rests h (drop k (m ∷ ms)) s ≡ true)) (next place)
+    (rests_first h ms place s n here q)
   where
-    by_case : (is_within nodes x e.serial ≡ true) ⊎ (shares_parent nodes (displaced_in nodes step x) e.serial ≡ true) → has new e.serial ≡ true
-    by_case (inl p) =
-        ap (λ (l : List ℕ). has l e.serial) more
-        ∙ has_left mid (within_of nodes parent) e.serial (ap (λ (l : List ℕ). has l e.serial) made ∙ has_right old (within_of nodes x) e.serial (within_there nodes x e here p))
-    by_case (inr p) = ap (λ (l : List ℕ). has l e.serial) more ∙ has_right mid (within_of nodes parent) e.serial (shares_there nodes (displaced_in nodes step x) parent e some here p)
+    next : (k : ℕ) → suc (k + 1) ≡ suc k + 1
+    next k = omega arith
+
+none_rests : (h : History) (children : List Node) (place s : ℕ) → length children ≤ place → any_rests h (drop place children) s ≡ false
+none_rests h [] zero s l = refl
+none_rests h [] (suc place) s l = refl
+none_rests h (m ∷ ms) zero s l = absurd (omega (arith, l))
+none_rests h (m ∷ ms) (suc place) s l = none_rests h ms place s (omega (arith, l))
+
+pub more_put : (h : History) (children : List Node) (place : ℕ) (n : Node) (before after : List ℕ) → slice_get children place ≡ Some n → StayIn before after
+    → (may_rest h n ≡ true → AreWithinPut h.nodes n.serial after) → ArePutUpTo h children place before → ArePutUpTo h children (place + 1) after
+more_put h children place n before after at more within so_far e here q = by_case (so_far e here q)
+  where
+    by_first : ((may_rest h n && is_within h.nodes n.serial e.serial) ≡ true) ⊎ (any_rests h (drop (place + 1) children) e.serial ≡ true) → (has (elements_at h.nodes after) e.serial ≡ true) ⊎ (any_rests h (drop (place + 1) children) e.serial ≡ true)
+    by_first (inl r) = let parts = and_parts (may_rest h n) (is_within h.nodes n.serial e.serial) r in inl (within parts.0 e here parts.1)
+    by_first (inr r) = inr r
+
+    by_case : (has (elements_at h.nodes before) e.serial ≡ true) ⊎ (any_rests h (drop place children) e.serial ≡ true) → (has (elements_at h.nodes after) e.serial ≡ true) ⊎ (any_rests h (drop (place + 1) children) e.serial ≡ true)
+    by_case (inl p) = inl (still_stands h.nodes before after more e.serial p)
+    by_case (inr r) = by_first (rests_first h children place e.serial n at r)
+
+pub all_put : (h : History) (children : List Node) (place : ℕ) (places : List ℕ) → length children ≤ place → ArePutUpTo h children place places
+    → (e : Node) → node_at (elements h.nodes) e.serial ≡ Some e → any_rests h children e.serial ≡ true → has (elements_at h.nodes places) e.serial ≡ true
+all_put h children place places l done e here q = by_case (done e here q)
+  where
+    by_case : (has (elements_at h.nodes places) e.serial ≡ true) ⊎ (any_rests h (drop place children) e.serial ≡ true) → has (elements_at h.nodes places) e.serial ≡ true
+    by_case (inl p) = p
+    by_case (inr r) = let never : false ≡ true = sym (none_rests h children place e.serial l) ∙ r in cc
+
+-- ---- an element and the children that it displaces
+
+pub shown_alone : (h : History) (step : Step) (x : ℕ) (places : List ℕ) → AreWithinPut h.nodes x places → None ≡ serial_of (displaced_in h.nodes step x)
+    → (e : Node) → node_at (elements h.nodes) e.serial ≡ Some e → shows_in h step x e.serial ≡ true → has (elements_at h.nodes places) e.serial ≡ true
+shown_alone h step x places within none e here q = by_case (or_cases (is_within h.nodes x e.serial) (rests_under h (displaced_in h.nodes step x) e.serial) q)
+  where
+    no_parent : (o : Option Node) → None ≡ serial_of o → rests_under h o e.serial ≡ true → false ≡ true
+    no_parent None is r = r
+    no_parent (Some p) is r = cc
+
+    by_case : (is_within h.nodes x e.serial ≡ true) ⊎ (rests_under h (displaced_in h.nodes step x) e.serial ≡ true) → has (elements_at h.nodes places) e.serial ≡ true
+    by_case (inl p) = within e here p
+    by_case (inr p) = let never : false ≡ true = no_parent (displaced_in h.nodes step x) none p in cc
+
+pub shown_beside : (h : History) (step : Step) (x parent : ℕ) (mid new : List ℕ) → AreWithinPut h.nodes x mid → Some parent ≡ serial_of (displaced_in h.nodes step x) → StayIn mid new
+    → ((e : Node) → node_at (elements h.nodes) e.serial ≡ Some e → any_rests h (time_children h.nodes parent) e.serial ≡ true → has (elements_at h.nodes new) e.serial ≡ true)
+    → (e : Node) → node_at (elements h.nodes) e.serial ≡ Some e → shows_in h step x e.serial ≡ true → has (elements_at h.nodes new) e.serial ≡ true
+shown_beside h step x parent mid new within some more beside e here q = by_case (or_cases (is_within h.nodes x e.serial) (rests_under h (displaced_in h.nodes step x) e.serial) q)
+  where
+    of_parent : (o : Option Node) → Some parent ≡ serial_of o → rests_under h o e.serial ≡ true → any_rests h (time_children h.nodes parent) e.serial ≡ true
+    of_parent None is r = cc
+    of_parent (Some p) is r = subst (λ (k : ℕ). any_rests h (time_children h.nodes k) e.serial ≡ true) (sym (same_Some parent p.serial is)) r
+
+    by_case : (is_within h.nodes x e.serial ≡ true) ⊎ (rests_under h (displaced_in h.nodes step x) e.serial ≡ true) → has (elements_at h.nodes new) e.serial ≡ true
+    by_case (inl p) = still_stands h.nodes mid new more e.serial (within e here p)
+    by_case (inr p) = beside e here (of_parent (displaced_in h.nodes step x) some p)
 
 pub no_place : (nodes : List Node) (x : ℕ) → is_some (position (λ (n : Node). n.serial == x) nodes) ≡ false → is_some (node_at nodes x) ≡ false
 no_place nodes x q = by_test (is_some (node_at nodes x)) refl
@@ -243,7 +259,3 @@ no_place nodes x q = by_test (is_some (node_at nodes x)) refl
     by_test : (b : Bool) → is_some (node_at nodes x) ≡ b → b ≡ false
     by_test true e = let never : true ≡ false = sym (known_place nodes x e) ∙ q in cc
     by_test false e = refl
-
--- of the elements the same are listed
-abbrev pub SameTouched : Document → List ℕ → List ℕ → Type 0
-SameTouched document before after = (e : Node) → node_at (elements document.nodes) e.serial ≡ Some e → has after e.serial ≡ has before e.serial

@@ -1,11 +1,21 @@
--- Where a step shows besides its element.
-use Rattle.std.specs.Prelude.{◌≡◌, ℕ, List, filter, Bool, false, if◌then◌else◌, Option, Some, None, slice_get}
+-- Where a step shows besides its element, and elements by their places.
+use Rattle.std.specs.Prelude.{◌≡◌, ℕ, List, [], ◌∷◌, filter, Bool, true, false, ◌&&◌, ◌||◌, if◌then◌else◌, Option, Some, None, is_some, IsSome}
+use Rattle.std.specs.List.{list_any}
+use Rattle.smil_model.specs.declared.diary.Entry.{Entry}
 use Rattle.smil_model.specs.declared.diary.Step.{Step}
+use Rattle.smil_model.specs.declared.document.Fill.{Fill}
+use Rattle.smil_model.specs.declared.document.Fill.TheVariants.{Freeze}
 use Rattle.smil_model.specs.declared.document.Node.{Node}
-use Rattle.smil_model.specs.document.Document.{elements, serials, time_parent}
+use Rattle.smil_model.specs.document.Document.{elements, serials, time_parent, time_children, node_at, is_within}
+use Rattle.smil_model.specs.document.Defaults.{effective_fill}
+use Rattle.smil_model.specs.document.Edits.{place_in}
 use Rattle.smil_model.specs.document.Closure.{has}
+use Rattle.smil_model.specs.diary.Diary.{History}
+use Rattle.smil_model.specs.diary.Plays.{last_finished}
+use Rattle.smil_model.specs.reach.Reach.{subject_of}
 use Rattle.smil_laws.specs.Seen.{starts}
 use Rattle.smil_graph.specs.Tables.{takes_turns}
+use Rattle.smil_cells.specs.CellsState.{CellsState}
 
 -- a seq or an excl, of whose children one plays at a time
 abbrev pub sequenced : Option Node → Option Node
@@ -16,18 +26,70 @@ sequenced (Some p) = if takes_turns (Some p) then Some p else None
 abbrev pub displaced_in : List Node → Step → ℕ → Option Node
 displaced_in nodes step serial = if starts step then sequenced (time_parent nodes serial) else None
 
--- ---- places of listed elements
+-- ---- whose views a step may change, given the same intervals
 
--- whether the node at a place is listed
-abbrev pub is_touched_node : List ℕ → Option Node → Bool
-is_touched_node touched None = false
-is_touched_node touched (Some n) = has touched n.serial
+abbrev pub is_freeze : Fill → Bool
+is_freeze Freeze = true
+is_freeze _ = false
 
--- these are the places of the nodes that are listed
-abbrev pub ArePlaces : List Node → List ℕ → List ℕ → Type 0
-ArePlaces nodes touched places =
-    (place : ℕ) → has places place ≡ is_touched_node touched (slice_get nodes place)
+-- whether an element may be frozen until it is displaced: it has finished an interval, and its fill
+-- freezes it
+abbrev pub may_rest : History → Node → Bool
+may_rest h e = is_freeze (effective_fill h.nodes e) && is_some (last_finished h e.serial)
 
--- the elements that are listed, in document order
-abbrev pub listed_of : List Node → List ℕ → List ℕ
-listed_of nodes touched = filter (has touched) (serials (elements nodes))
+-- whether an element is within one of these that may rest so
+abbrev pub any_rests : History → List Node → ℕ → Bool
+any_rests h children s =
+    list_any (λ (n : Node). may_rest h n && is_within h.nodes n.serial s) children
+
+abbrev pub rests_under : History → Option Node → ℕ → Bool
+rests_under h None s = false
+rests_under h (Some p) s = any_rests h (time_children h.nodes p.serial) s
+
+-- a step shows in the views of its element and of those below it, and where the element begins or
+-- resumes in a seq or an excl also in those of the children there that may rest, and of those below
+-- them
+abbrev pub shows_in : History → Step → ℕ → ℕ → Bool
+shows_in h step x s = is_within h.nodes x s || rests_under h (displaced_in h.nodes step x) s
+
+abbrev pub shows_from : History → Step → Option ℕ → ℕ → Bool
+shows_from h step None s = false
+shows_from h step (Some x) s = shows_in h step x s
+
+-- whether one of the entries shows, by the history that ends with them
+abbrev pub any_shows : History → List Entry → ℕ → Bool
+any_shows h [] s = false
+any_shows h (y ∷ ys) s =
+    shows_from h y.step (subject_of h.log y.step) s || any_shows h ys s
+
+-- ---- elements by their places
+
+-- the elements at these places, in document order
+abbrev pub elements_at : List Node → List ℕ → List ℕ
+elements_at nodes places =
+    filter (λ (s : ℕ). has places (place_in nodes s)) (serials (elements nodes))
+
+-- the node that there may be
+abbrev pub nodes_of : Option Node → List Node
+nodes_of None = []
+nodes_of (Some n) = n ∷ []
+
+-- each place that was in still is
+abbrev pub StayIn : List ℕ → List ℕ → Type 0
+StayIn old new = (place : ℕ) → has old place ≡ true → has new place ≡ true
+
+-- the place of each node that is listed is in
+abbrev pub ArePut : List Node → List ℕ → List ℕ → Type 0
+ArePut nodes listed places =
+    (s : ℕ) → has listed s ≡ true → IsSome (node_at nodes s) → has places (place_in nodes s) ≡ true
+
+-- the elements within this node are at the places
+abbrev pub AreWithinPut : List Node → ℕ → List ℕ → Type 0
+AreWithinPut nodes x places =
+    (e : Node) → node_at (elements nodes) e.serial ≡ Some e → is_within nodes x e.serial ≡ true
+    → has (elements_at nodes places) e.serial ≡ true
+
+-- the cells with the elements at these places as those that are touched
+abbrev pub touched_at : CellsState → List ℕ → CellsState
+touched_at s places =
+    record s { touched = elements_at s.presentation.document.nodes places }

@@ -16,28 +16,31 @@ ghost use Rattle.smil_stretch.specs.Clocks.{AreClocksOf};
 ghost use Rattle.smil_past.specs.Past as past_of;
 ghost use Rattle.smil_element.specs.Parts.{coming_meant};
 ghost use Rattle.smil_cells.specs.CellsState.{GoesOn, IsFront, IsHeard, IsNext, IsPassed, IsRebuilt, IsRefusing, IsSettled, NothingBefore, first_at, MayRebuild, CellsState, StayTouched, WhereTold, any_interval, fresh_since, history_of, interval_at, reached_since, with_logged};
+ghost use Rattle.smil_cells.specs.Shown.{touched_at};
 ghost use Rattle.smil_cells.specs.Standings.{MayBegin, at_mark, begun};
 ghost use Rattle.smil_laws.specs.Same.{IsSame};
 
 use super::named::{heard_log, last_moment};
-use super::order::in_order;
+use super::order::{put_nodes, take_elements};
 use super::table::{Since, Table};
 use super::touched::touch;
 use smil_diary::{Book, BookFault};
 use smil_element::DueChange;
+use smil_interval::Steps;
 use smil_laws::courses::{
     ended_is_diary, reached_is_past, reaches_further, reaches_over_quiet, too_long_is_full,
 };
 use smil_laws::firsts::first_is_of_element;
 use smil_laws::near::resolved_is_near;
-use smil_laws::stays::{log_may_be_longer, other_views_stay, time_passes_quietly};
-use smil_model::{Doc, Duplicate, Entry, Interval, Log, LogEntry, Serials, Steps};
+use smil_laws::stays::{log_may_be_longer, time_passes_quietly};
+use smil_model::{Doc, Duplicate, Entry, Interval, Log, LogEntry, PlaceSet, Serials};
 use smil_past::{GraphedTree, Past};
 use smil_rounds::groups::{append_all, fill_group};
 use smil_stretch::Clocks;
 use smil_tree::Tree;
 use std::alloc::{AllocError, Global};
 use std::marker::Model;
+use std::mem::replace;
 use std::sync::ledger::Ledger;
 
 /// A presentation under way, whose diary is resolved moment by moment; seen as its document, its
@@ -51,6 +54,10 @@ pub struct Cells<T: Table> {
     fault: Option<BookFault>,
     mark: Option<i64>,
     touched: Serials,
+    /// Room for the places of what is touched, while a call works.
+    places: PlaceSet,
+    /// Room for the elements whose intervals the table tells as changed.
+    changed: Serials,
     group: Vec<Entry>,
     alloc: Global,
 }
@@ -65,6 +72,8 @@ impl<T: Table> Drop for Cells<T> {
             fault: _fault,
             mark: _mark,
             touched: _touched,
+            places: _places,
+            changed: _changed,
             group: _group,
             alloc: _alloc,
         } = self;
@@ -139,7 +148,8 @@ impl<T: Table> Cells<T> {
         }
         too_long_is_full();
         self.touched.cut_back(0);
-        self.settle_through(until, steps)
+        let places = replace(&mut self.places, PlaceSet::new(self.alloc));
+        self.settle_through(until, places, steps)
     }
 
     /// Appends an entry to the log at its moment, which is the presentation's, and resolves what
@@ -180,11 +190,12 @@ impl<T: Table> Cells<T> {
         }
         too_long_is_full();
         self.touched.cut_back(0);
-        if let Err(fault) = self.take_in(entry, steps) {
+        let mut places = replace(&mut self.places, PlaceSet::new(self.alloc));
+        if let Err(fault) = self.take_in(entry, &mut places, steps) {
             return Err(fault);
         }
         let until = self.moment;
-        self.settle_through(until, steps)
+        self.settle_through(until, places, steps)
     }
 
     /// The current interval of an element; None where it has none. No refusal was answered. It
@@ -276,6 +287,8 @@ impl<T: Table> Cells<T> {
             fault: None,
             mark: None,
             touched,
+            places: PlaceSet::new(self.alloc),
+            changed: Serials::new(self.alloc),
             group: Vec::new(self.alloc),
             alloc: self.alloc,
         })
@@ -295,6 +308,8 @@ impl<T: Table> Cells<T> {
         ensures counted { steps.old ≤ steps.new }
         ensures most { WhereTold T.counts (steps.new - steps.old
             ≤ length (elements doc.now.nodes)) }
+        ensures least { IfOk result (λ cells. WhereTold T.counts
+            (any_interval doc.now.nodes (interval_at cells) ≤ steps.new - steps.old)) }
     {
         let tree = Tree::of_doc(self.alloc, doc)?;
         self.rebuilt_over(GraphedTree::of(self.alloc, tree)?, len, steps)
@@ -314,6 +329,8 @@ impl<T: Table> Cells<T> {
         ensures counted { steps.old ≤ steps.new }
         ensures most { WhereTold T.counts (steps.new - steps.old
             ≤ length (elements graphed.tree.nodes)) }
+        ensures least { IfOk result (λ cells. WhereTold T.counts
+            (any_interval graphed.tree.nodes (interval_at cells) ≤ steps.new - steps.old)) }
     {
         reached_is_past();
         resolved_is_near();
@@ -324,8 +341,8 @@ impl<T: Table> Cells<T> {
         Cells::over(self.alloc, past, moment, steps)
     }
 
-    /// Makes these the cells that `rebuilt` gives, under its conditions. Where memory runs out
-    /// `settle` and `hear` answer `Memory` from then on.
+    /// Makes these the cells that `rebuilt` gives, under its conditions. Where memory runs out all
+    /// else is as before, and `settle` and `hear` answer `Memory` from then on.
     pub fn rebuild<L: Ledger>(
         &mut self,
         doc: &Doc,
@@ -334,10 +351,13 @@ impl<T: Table> Cells<T> {
     ) -> Result<(), AllocError>
         requires { MayRebuild self.old doc.now len }
         ensures rebuilt { OnOk result (IsRebuilt self.old doc.now len self.new) }
-        ensures refused { OnErr result (self.new.fault ≡ Some book_fault.Memory) }
+        ensures refused { OnErr result
+            (self.new ≡ record self.old { fault = Some book_fault.Memory }) }
         ensures counted { steps.old ≤ steps.new }
         ensures most { WhereTold T.counts (steps.new - steps.old
             ≤ length (elements doc.now.nodes)) }
+        ensures least { OnOk result (WhereTold T.counts
+            (any_interval doc.now.nodes (interval_at self.new) ≤ steps.new - steps.old)) }
     {
         match self.rebuilt(doc, len, steps) {
             Ok(rebuilt) => {
@@ -389,10 +409,12 @@ impl<T: Table> Cells<T> {
         self.mark = None;
     }
 
-    // Resolves up to a moment, where no refusal was answered.
+    // Resolves up to a moment, where no refusal was answered. The elements at the places were
+    // touched before.
     fn settle_through<L: Ledger>(
         &mut self,
         until: i64,
+        mut places: PlaceSet,
         steps: &mut Steps<L>,
     ) -> Result<(), BookFault>
         requires sound { self.old.fault ≡ None }
@@ -402,7 +424,7 @@ impl<T: Table> Cells<T> {
             ≡ as_of self.old.presentation (nat_abs until)) }
         ensures settled { OnOk result (IsSettled self.new) }
         ensures goes_on { OnOk result (GoesOn self.old self.new) }
-        ensures more { OnOk result (StayTouched self.old self.new) }
+        ensures more { OnOk result (StayTouched (touched_at self.old places) self.new) }
         ensures refused { IfErr result (IsRefusing self.old self.new) }
         ensures full { IfErr result (λ fault. fault ≡ book_fault.DiaryFull
             → IsFront (course_of (as_of self.old.presentation (nat_abs until))) self.new.diary) }
@@ -416,13 +438,13 @@ impl<T: Table> Cells<T> {
         self.past.possible();
         while let Some(coming) = self.due_by(until) {
             self.come_to(coming, until);
-            if let Err(fault) = self.happen(coming, steps) {
+            if let Err(fault) = self.happen(coming, &mut places, steps) {
                 return Err(fault);
             }
         }
         self.fault = Some(BookFault::Memory);
-        let touched = in_order(self.alloc, self.past.tree(), &self.touched)?;
-        self.touched = touched;
+        take_elements(self.past.tree(), &mut places, &mut self.touched)?;
+        self.places = places;
         self.fault = None;
         self.pass_to(until);
         Ok(())
@@ -504,19 +526,27 @@ impl<T: Table> Cells<T> {
             fault: None,
             mark: None,
             touched: Serials::new(alloc),
+            places: PlaceSet::new(alloc),
+            changed: Serials::new(alloc),
             group: Vec::new(alloc),
             alloc,
         })
     }
 
     // Takes in a log entry, which is heard at its moment. A refusal is answered from then on.
-    fn take_in<L: Ledger>(&mut self, entry: LogEntry, steps: &mut Steps<L>) -> Result<(), BookFault>
+    fn take_in<L: Ledger>(
+        &mut self,
+        entry: LogEntry,
+        places: &mut PlaceSet,
+        steps: &mut Steps<L>,
+    ) -> Result<(), BookFault>
         requires sound { self.old.fault ≡ None }
         requires moment { entry.moment ≡ pos self.old.presentation.now }
         requires may { may_happen entry.what ≡ true }
         requires room { length self.old.presentation.log + 1 ≤ the_entries }
         requires settled { NothingBefore self.old (pos self.old.presentation.now +ℤ pos 1) }
-        ensures heard { OnOk result (IsHeard self.old entry self.new) }
+        ensures heard { OnOk result (IsHeard (touched_at self.old places.old) entry
+            (touched_at self.new places.new)) }
         ensures refused { IfErr result (IsRefusing self.old self.new) }
         ensures full { IfErr result (λ fault. fault ≡ book_fault.DiaryFull
             → IsFront (course_of (with_logged self.old.presentation entry)) self.new.diary) }
@@ -530,7 +560,6 @@ impl<T: Table> Cells<T> {
         reaches_further();
         reached_is_past();
         resolved_is_near();
-        other_views_stay();
         self.fault = Some(BookFault::Memory);
         let from = self.past.book().len();
         if let Err(fault) = self.past.hear(entry) {
@@ -538,14 +567,15 @@ impl<T: Table> Cells<T> {
             return Err(fault);
         }
         self.past.possible();
-        touch(self.alloc, &self.past, from, &mut self.touched)?;
+        touch(&self.past, from, places)?;
         let since = Since {
             past: &self.past,
             from,
             moment: self.moment,
         };
-        let table = &mut self.table;
-        table.refresh(&since, &mut self.touched, steps)?;
+        self.changed.cut_back(0);
+        self.table.refresh(&since, &mut self.changed, steps)?;
+        put_nodes(self.past.tree(), &self.changed, places)?;
         self.fault = None;
         Ok(())
     }
@@ -554,12 +584,14 @@ impl<T: Table> Cells<T> {
     fn happen<L: Ledger>(
         &mut self,
         coming: DueChange,
+        places: &mut PlaceSet,
         steps: &mut Steps<L>,
     ) -> Result<(), BookFault>
         requires sound { self.old.fault ≡ None }
         requires first { first_at self.old ≡ Some (coming_meant coming) }
         requires due { coming.key.value ≤ℤ pos self.old.presentation.now }
-        ensures next { OnOk result (IsNext self.old self.new) }
+        ensures next { OnOk result (IsNext (touched_at self.old places.old)
+            (touched_at self.new places.new)) }
         ensures refused { IfErr result (IsRefusing self.old self.new) }
         ensures full { IfErr result (λ fault. fault ≡ book_fault.DiaryFull
             → IsFront (course_of self.old.presentation) self.new.diary) }
@@ -572,7 +604,6 @@ impl<T: Table> Cells<T> {
         first_is_of_element();
         resolved_is_near();
         reached_is_past();
-        other_views_stay();
         self.fault = Some(BookFault::Memory);
         let from = self.past.book().len();
         fill_group(&self.past, self.moment, coming, &mut self.group)?;
@@ -581,14 +612,16 @@ impl<T: Table> Cells<T> {
             return Err(fault);
         }
         self.past.possible();
-        touch(self.alloc, &self.past, from, &mut self.touched)?;
+        touch(&self.past, from, places)?;
         let since = Since {
             past: &self.past,
             from,
             moment: self.moment,
         };
+        self.changed.cut_back(0);
         let intervals = &mut self.table;
-        intervals.refresh(&since, &mut self.touched, steps)?;
+        intervals.refresh(&since, &mut self.changed, steps)?;
+        put_nodes(self.past.tree(), &self.changed, places)?;
         self.fault = None;
         Ok(())
     }

@@ -1,94 +1,79 @@
-//! Elements put in document order.
+//! Places of nodes put into a set, and the elements there taken in document order.
 
-ghost use Rattle.std.specs.Prelude.{◌≡◌, ℕ, ◌++◌, [], ◌∷◌, ◌||◌, filter, Some, OnOk, IfOk, IsSome, slice_get};
-ghost use Rattle.std.specs.List.Sorted.{IsNonDecreasing};
-ghost use Rattle.smil_model.specs.declared.document.Node.{Node as AnyNode};
+ghost use Rattle.std.specs.Prelude.{◌≡◌, ℕ, ◌++◌, ◌≤◌, ◌<◌, filter, true, OnOk, IsSome, slice_get};
 ghost use Rattle.smil_model.specs.document.Document.{elements, node_at, serials};
 ghost use Rattle.smil_model.specs.document.Closure.{has};
-ghost use Rattle.smil_cells.specs.Shown.{ArePlaces, is_touched_node, listed_of};
+ghost use Rattle.smil_model.specs.document.Edits.{place_in};
+ghost use Rattle.smil_cells.specs.Shown.{ArePut, StayIn, elements_at, nodes_of};
 
-use smil_model::Serials;
+use smil_model::{PlaceSet, Serials};
 use smil_tree::Tree;
-use std::alloc::{AllocError, Global};
+use std::alloc::AllocError;
 
-/// The elements that are listed, each once and in document order; other nodes are left out. Refused
+/// Puts the places of the nodes that are listed in; a serial of no node is passed over. Refused
 /// where memory runs out.
-pub fn in_order(alloc: Global, tree: &Tree, touched: &Serials) -> Result<Serials, AllocError>
-    ensures order { IfOk result (λ list. list
-        ≡ filter (has list) (serials (elements tree.now.nodes))) }
-    ensures same { IfOk result (λ list. (e : AnyNode) → node_at (elements tree.now.nodes) e.serial
-        ≡ Some e → has list e.serial ≡ has touched.now e.serial) }
+pub fn put_nodes(tree: &Tree, nodes: &Serials, places: &mut PlaceSet) -> Result<(), AllocError>
+    ensures more { OnOk result (StayIn places.old places.new) }
+    ensures put { OnOk result (ArePut tree.now.nodes nodes.now places.new) }
 {
-    let mut places = places_of(alloc, tree, touched)?;
-    places.sort_unstable();
-    listed(alloc, tree, touched, &places)
-}
-
-// The places of the nodes that are listed.
-fn places_of(alloc: Global, tree: &Tree, touched: &Serials) -> Result<Vec<usize>, AllocError>
-    ensures { IfOk result (λ places. ArePlaces tree.now.nodes touched.now places.items) }
-{
-    let mut places = Vec::new(alloc);
-    for serial in touched.slice() {
-        note_place(tree, *serial, &mut places)?;
+    for serial in nodes.slice() {
+        put_node(tree, *serial, places)?;
     }
-    Ok(places)
+    Ok(())
 }
 
-// Appends the place of the node with a serial, where there is one.
-fn note_place(tree: &Tree, serial: u32, places: &mut Vec<usize>) -> Result<(), AllocError>
-    ensures { OnOk result ((i : ℕ) → has places.new.items i
-        ≡ (has places.old.items i || is_touched_node (serial ∷ []) (slice_get tree.now.nodes i))) }
+// Puts the place of the node with a serial in, where there is one.
+fn put_node(tree: &Tree, serial: u32, places: &mut PlaceSet) -> Result<(), AllocError>
+    ensures more { OnOk result (StayIn places.old places.new) }
+    ensures put { OnOk result (IsSome (node_at tree.now.nodes serial)
+        → has places.new (place_in tree.now.nodes serial) ≡ true) }
 {
     tree.valid();
     match tree.position(serial) {
-        Some(place) => put(place, places),
+        Some(place) => places.put(place),
         None => Ok(()),
     }
 }
 
-// Appends a place.
-fn put(place: usize, places: &mut Vec<usize>) -> Result<(), AllocError>
-    ensures { OnOk result (places.new.items ≡ places.old.items ++ place ∷ []) }
+/// Puts the places from one on up to another in. Refused where memory runs out.
+pub fn put_range(places: &mut PlaceSet, start: usize, end: usize) -> Result<(), AllocError>
+    ensures more { OnOk result (StayIn places.old places.new) }
+    ensures put { OnOk result ((place : ℕ) → start ≤ place → place < end
+        → has places.new place ≡ true) }
 {
-    places.push(place)?;
+    for place in start..end {
+        places.put(place)?;
+    }
     Ok(())
 }
 
-// The elements at places that do not fall, each once.
-fn listed(
-    alloc: Global,
+/// Takes all places out, and makes a list that of the elements there, in document order. Refused
+/// where memory runs out.
+pub fn take_elements(
     tree: &Tree,
-    touched: &Serials,
-    places: &[usize],
-) -> Result<Serials, AllocError>
-    requires sorted { IsNonDecreasing places.now }
-    requires placed { ArePlaces tree.now.nodes touched.now places.now }
-    ensures { IfOk result (λ list. list ≡ listed_of tree.now.nodes touched.now) }
+    places: &mut PlaceSet,
+    list: &mut Serials,
+) -> Result<(), AllocError>
+    ensures taken { OnOk result (list.new ≡ elements_at tree.now.nodes places.old) }
+    ensures order { OnOk result (list.new
+        ≡ filter (has list.new) (serials (elements tree.now.nodes))) }
 {
     tree.valid();
-    let mut list = Serials::new(alloc);
-    let mut next = 0;
-    for place in places {
-        if next <= *place {
-            note_element(tree, *place, &mut list)?;
-            next = *place + 1;
-        }
+    list.cut_back(0);
+    while let Some(place) = places.take_first() {
+        push_element(tree, place, list)?;
     }
-    Ok(list)
+    Ok(())
 }
 
 // Appends the node at a place, where it is an element.
-fn note_element(tree: &Tree, place: usize, list: &mut Serials) -> Result<(), AllocError>
-    requires { IsSome (slice_get tree.now.nodes place) }
-    ensures { (n : AnyNode) → slice_get tree.now.nodes place ≡ Some n
-        → OnOk result (list.new ≡ list.old ++ serials (elements (n ∷ []))) }
+fn push_element(tree: &Tree, place: usize, list: &mut Serials) -> Result<(), AllocError>
+    ensures { OnOk result (list.new
+        ≡ list.old ++ serials (elements (nodes_of (slice_get tree.now.nodes place)))) }
 {
     tree.valid();
-    let serial = tree.serial_at(place).unwrap();
-    if tree.kind(serial).is_element() {
-        list.push(serial)
-    } else {
-        Ok(())
+    match tree.serial_at(place) {
+        Some(serial) if tree.kind(serial).is_element() => list.push(serial),
+        _ => Ok(()),
     }
 }

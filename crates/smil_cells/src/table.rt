@@ -13,7 +13,8 @@ ghost use Rattle.smil_past.specs.Past.{IsPresent, front, history_of};
 ghost use Rattle.smil_cells.specs.CellsState.{WhereTold, any_interval, fresh};
 
 use smil_element::DueChange;
-use smil_model::{Interval, Serials, Steps};
+use smil_interval::Steps;
+use smil_model::{Interval, Serials};
 use smil_past::Past;
 use std::alloc::{AllocError, Global};
 use std::sync::ledger::Ledger;

@@ -1,88 +1,132 @@
 //! The elements in whose views entries show.
 
-ghost use Rattle.std.specs.Prelude.{◌≡◌, ℕ, ◌≤◌, ◌++◌, ◌||◌, length, drop, filter, true, Some, OnOk, IsSome};
+ghost use Rattle.std.specs.Prelude.{◌≡◌, ℕ, ◌≤◌, ◌||◌, length, drop, true, Some, OnOk, IsSome, is_some};
 ghost use Rattle.smil_model.specs.declared.document.Node.{Node as AnyNode};
-ghost use Rattle.smil_model.specs.document.Document.{elements, is_excl_kind, is_seq_kind, is_within, node_at, serial_of, serials};
+ghost use Rattle.smil_model.specs.document.Document.{elements, is_excl_kind, is_seq_kind, node_at, serial_of, time_children};
 ghost use Rattle.smil_model.specs.document.Closure.{has};
+ghost use Rattle.smil_model.specs.diary.Lawful.{has_element};
+ghost use Rattle.smil_model.specs.diary.Plays.{last_finished};
 ghost use Rattle.smil_model.specs.reach.Reach.{subject_of};
-ghost use Rattle.smil_laws.specs.Seen.{any_shows, shows_from, shows_in, starts as starts_in};
-ghost use Rattle.smil_cells.specs.Shown.{displaced_in};
+ghost use Rattle.smil_laws.specs.Seen.{starts as starts_in};
+ghost use Rattle.smil_past.specs.Past.{history_of};
+ghost use Rattle.smil_cells.specs.Shown.{AreWithinPut, StayIn, any_rests, any_shows, displaced_in, elements_at, is_freeze, may_rest, shows_from, shows_in};
 
-use super::order::in_order;
+use super::order::put_range;
 use smil_instances::subject;
-use smil_model::{Kind, Log, Serials, Step};
+use smil_model::{Fill, Kind, PlaceSet, Step};
 use smil_past::Past;
 use smil_tree::Tree;
-use std::alloc::{AllocError, Global};
+use std::alloc::AllocError;
 
-// How many serials a list may have before it is put in order, each element once.
-const CROWD: usize = 100_000;
-
-/// Appends the elements in whose views the entries from an index on show. Beside them the list may
-/// get other nodes, and an element more than once; a list that grows long is put in order. Refused
-/// where memory runs out. It takes a step for each node that is appended, and n log n steps for a
-/// list of n that is put in order.
-pub fn touch(
-    alloc: Global,
-    past: &Past,
-    from: usize,
-    touched: &mut Serials,
-) -> Result<(), AllocError>
+/// Puts the places of the elements whose views the entries from an index on may change, given the
+/// same intervals. Beside them places of other nodes may be put in. Refused where memory runs out.
+/// It takes a step for each place that is put in, and for a begin or a resume in a seq or an excl
+/// one for each child of that.
+pub fn touch(past: &Past, from: usize, touched: &mut PlaceSet) -> Result<(), AllocError>
     requires { from ≤ length past.now.diary }
-    ensures more { OnOk result ((e : AnyNode) → node_at (elements past.now.document.nodes) e.serial
-        ≡ Some e → has touched.old e.serial ≡ true → has touched.new e.serial ≡ true) }
+    ensures more { OnOk result (StayIn touched.old touched.new) }
     ensures shown { OnOk result ((e : AnyNode) → node_at (elements past.now.document.nodes) e.serial
-        ≡ Some e → any_shows past.now.document.nodes past.now.log (drop from past.now.diary)
-        e.serial ≡ true → has touched.new e.serial ≡ true) }
+        ≡ Some e → any_shows (history_of past.now) (drop from past.now.diary) e.serial ≡ true
+        → has (elements_at past.now.document.nodes touched.new) e.serial ≡ true) }
 {
-    let tree = past.tree();
     for entry in &past.book().entries()[from..] {
-        touch_step(tree, past.log(), entry.step, touched)?;
+        touch_step(past, entry.step, touched)?;
     }
-    shorten(alloc, tree, touched)
-}
-
-// Puts the list in order where it has grown long.
-fn shorten(alloc: Global, tree: &Tree, touched: &mut Serials) -> Result<(), AllocError>
-    ensures { OnOk result ((e : AnyNode) → node_at (elements tree.now.nodes) e.serial ≡ Some e
-        → has touched.new e.serial ≡ has touched.old e.serial) }
-{
-    if touched.len() <= CROWD {
-        return Ok(());
-    }
-    *touched = in_order(alloc, tree, touched)?;
     Ok(())
 }
 
-// Appends the elements in whose views a step shows.
-fn touch_step(tree: &Tree, log: &Log, step: Step, touched: &mut Serials) -> Result<(), AllocError>
-    ensures more { OnOk result ((s : ℕ) → has touched.old s ≡ true → has touched.new s ≡ true) }
-    ensures shown { OnOk result ((e : AnyNode) → node_at (elements tree.now.nodes) e.serial ≡ Some e
-        → shows_from tree.now.nodes step (subject_of log.now step) e.serial ≡ true
-        → has touched.new e.serial ≡ true) }
+// Puts the places of the elements whose views a step may change.
+fn touch_step(past: &Past, step: Step, touched: &mut PlaceSet) -> Result<(), AllocError>
+    ensures more { OnOk result (StayIn touched.old touched.new) }
+    ensures shown { OnOk result ((e : AnyNode) → node_at (elements past.now.document.nodes) e.serial
+        ≡ Some e
+        → shows_from (history_of past.now) step (subject_of past.now.log step) e.serial ≡ true
+        → has (elements_at past.now.document.nodes touched.new) e.serial ≡ true) }
 {
-    match subject(log, step) {
-        Some(who) => touch_element(tree, step, who, touched),
+    match subject(past.log(), step) {
+        Some(who) => touch_element(past, step, who, touched),
         None => Ok(()),
     }
 }
 
-// Appends the elements in whose views a step of an element shows; a logged event may be of a serial
-// that no node has.
-fn touch_element(tree: &Tree, step: Step, who: u32, touched: &mut Serials) -> Result<(), AllocError>
-    ensures more { OnOk result ((s : ℕ) → has touched.old s ≡ true → has touched.new s ≡ true) }
-    ensures shown { OnOk result ((e : AnyNode) → node_at (elements tree.now.nodes) e.serial ≡ Some e
-        → shows_in tree.now.nodes step who e.serial ≡ true → has touched.new e.serial ≡ true) }
+// Puts the places of the elements whose views a step of an element may change; a logged event may
+// be of a serial that no node has.
+fn touch_element(
+    past: &Past,
+    step: Step,
+    who: u32,
+    touched: &mut PlaceSet,
+) -> Result<(), AllocError>
+    ensures more { OnOk result (StayIn touched.old touched.new) }
+    ensures shown { OnOk result ((e : AnyNode) → node_at (elements past.now.document.nodes) e.serial
+        ≡ Some e → shows_in (history_of past.now) step who e.serial ≡ true
+        → has (elements_at past.now.document.nodes touched.new) e.serial ≡ true) }
 {
+    let tree = past.tree();
     tree.valid();
     if tree.position(who).is_none() {
         return Ok(());
     }
     touch_within(tree, who, touched)?;
     match displaced(tree, step, who) {
-        Some(parent) => touch_within(tree, parent, touched),
+        Some(parent) => touch_resting(past, parent, touched),
         None => Ok(()),
     }
+}
+
+// Puts the places of the children of a time parent that may be frozen, and of what is below these
+// in.
+fn touch_resting(past: &Past, parent: u32, touched: &mut PlaceSet) -> Result<(), AllocError>
+    ensures more { OnOk result (StayIn touched.old touched.new) }
+    ensures put { OnOk result ((e : AnyNode) → node_at (elements past.now.document.nodes) e.serial
+        ≡ Some e → any_rests (history_of past.now) (time_children past.now.document.nodes parent)
+        e.serial ≡ true → has (elements_at past.now.document.nodes touched.new) e.serial ≡ true) }
+{
+    past.possible();
+    for child in past.tree().time_children(parent) {
+        touch_where_resting(past, *child, touched)?;
+    }
+    Ok(())
+}
+
+// Puts the places of an element and of those below it in, where it may be frozen.
+fn touch_where_resting(past: &Past, who: u32, touched: &mut PlaceSet) -> Result<(), AllocError>
+    requires { has_element past.now.document.nodes who ≡ true }
+    ensures more { OnOk result (StayIn touched.old touched.new) }
+    ensures put { OnOk result ((n : AnyNode) → node_at (elements past.now.document.nodes) who
+        ≡ Some n → may_rest (history_of past.now) n ≡ true
+        → AreWithinPut past.now.document.nodes who touched.new) }
+{
+    if may_rest(past, who) {
+        touch_within(past.tree(), who, touched)
+    } else {
+        Ok(())
+    }
+}
+
+// Whether an element may be frozen until it is displaced: it has finished an interval, and its fill
+// freezes it.
+fn may_rest(past: &Past, who: u32) -> bool
+    requires { has_element past.now.document.nodes who ≡ true }
+    ensures { (n : AnyNode) → node_at (elements past.now.document.nodes) who ≡ Some n
+        → result ≡ may_rest (history_of past.now) n }
+{
+    freezes(past.makeup(who).fill) && has_finished(past, who)
+}
+
+// Whether this fill keeps an element until it is displaced.
+fn freezes(fill: Fill) -> bool
+    ensures { result ≡ is_freeze fill }
+{
+    matches!(fill, Fill::Freeze)
+}
+
+// Whether an element has finished an interval since birth.
+fn has_finished(past: &Past, who: u32) -> bool
+    requires { has_element past.now.document.nodes who ≡ true }
+    ensures { result ≡ is_some (last_finished (history_of past.now) who) }
+{
+    past.plays().of(who).unwrap().last_finished.is_some()
 }
 
 // The time parent in which a step may displace frozen children, if there is one.
@@ -117,15 +161,13 @@ fn plays_one(kind: Kind) -> bool
     matches!(kind, Kind::Seq | Kind::Excl)
 }
 
-// Appends a node and those below it.
-fn touch_within(tree: &Tree, who: u32, touched: &mut Serials) -> Result<(), AllocError>
+// Puts the places of a node and of those below it in.
+fn touch_within(tree: &Tree, who: u32, touched: &mut PlaceSet) -> Result<(), AllocError>
     requires { IsSome (node_at tree.now.nodes who) }
-    ensures { OnOk result (touched.new ≡ touched.old
-        ++ serials
-        (filter (λ (n : AnyNode). is_within tree.now.nodes who n.serial) tree.now.nodes)) }
+    ensures more { OnOk result (StayIn touched.old touched.new) }
+    ensures within { OnOk result (AreWithinPut tree.now.nodes who touched.new) }
 {
-    for node in tree.within(who) {
-        touched.push(node.serial)?;
-    }
-    Ok(())
+    tree.valid();
+    let (start, end) = tree.span(who);
+    put_range(touched, start, end)
 }

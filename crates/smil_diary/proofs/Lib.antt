@@ -6,3 +6,4 @@ pub mod Elements
 pub mod Counts
 pub mod Histories
 pub mod Finished
+pub mod Rows

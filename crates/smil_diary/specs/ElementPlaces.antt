@@ -1,6 +1,6 @@
 -- What a diary's index keeps: where the entries on each element stand.
 use Rattle.std.specs.Prelude.{◌≡◌, ℕ, suc, ◌-◌, ◌≤◌, List, [], ◌∷◌, ◌++◌, length, take, Bool, true, false, ◌&&◌, ◌==◌, if◌then◌else◌, nat_eq, Option, Some, None, unwrap_or}
-use Rattle.std.specs.List.{last_or}
+use Rattle.std.specs.List.{last_or, position}
 use Rattle.std.specs.Map.{lookup}
 use Rattle.smil_model.specs.declared.limits.TheConstants.{DIARY_ENTRIES}
 use Rattle.smil_model.specs.declared.diary.Entry.{Entry}
@@ -130,6 +130,10 @@ reopened k e = record e { finished = shrunk (ends k && active_by e) e.finished }
 
 abbrev pub forgotten : StepKind → ElementPlaces → ElementPlaces
 forgotten k e = reopened k (without_last k e)
+
+-- the first row of an index for a serial
+abbrev pub row_of : List (ℕ × ElementPlaces) → ℕ → Option ℕ
+row_of elements serial = position (λ (e : ℕ × ElementPlaces). e.0 == serial) elements
 
 -- the places that an index has for a serial
 abbrev pub kept : List (ℕ × ElementPlaces) → ℕ → ElementPlaces

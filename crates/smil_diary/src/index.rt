@@ -1,32 +1,34 @@
 //! The index of a diary by element.
 
-ghost use Rattle.std.specs.Prelude.{◌≡◌, ℕ, ◌<◌, OnOk, OnErr};
+ghost use Rattle.std.specs.Prelude.{◌≡◌, ℕ, ◌<◌, Some, IfOk, OnOk, OnErr};
 ghost use Rattle.smil_model.specs.declared.limits.TheConstants as limits;
-ghost use Rattle.smil_diary.specs.ElementPlaces.{nothing, kept, noted_at, forgotten_at};
+ghost use Rattle.smil_diary.specs.ElementPlaces.{nothing, kept, noted_at, forgotten_at, row_of};
 
 use super::element::ElementPlaces;
-use smil_model::StepKind;
+use smil_model::{SerialTable, StepKind};
 use std::alloc::{AllocError, Global};
-use std::collections::HashMap;
 use std::marker::Model;
 
 /// The index of a diary by element, seen as serials with the places of their entries.
 #[derive(Drop)]
 pub(crate) struct Index {
-    elements: HashMap<u32, ElementPlaces>,
+    rows: SerialTable,
+    elements: Vec<(u32, ElementPlaces)>,
     absent: ElementPlaces,
 }
 
 impl Model for Index {
     ghost use Rattle.std.specs.Prelude.{◌≡◌, ℕ, List};
+    ghost use Rattle.std.specs.FinMap.{get};
     ghost use Rattle.smil_diary.specs.declared.element.ElementPlaces.{ElementPlaces as GivenPlaces};
-    ghost use Rattle.smil_diary.specs.ElementPlaces.{nothing};
+    ghost use Rattle.smil_diary.specs.ElementPlaces.{nothing, row_of};
 
     ghost Value = { List (ℕ × GivenPlaces) };
 
-    ghost view = { λ i. i.elements.entries };
+    ghost view = { λ i. i.elements.items };
 
-    ghost invariant = { λ i. i.absent ≡ nothing };
+    ghost invariant = { λ i. ((who : ℕ) → get i.rows who ≡ row_of i.elements.items who)
+        × (i.absent ≡ nothing) };
 }
 
 impl Index {
@@ -35,7 +37,8 @@ impl Index {
         ensures { (serial : ℕ) → kept result serial ≡ nothing }
     {
         Index {
-            elements: HashMap::new(alloc),
+            rows: SerialTable::new(alloc),
+            elements: Vec::new(alloc),
             absent: ElementPlaces::new(alloc),
         }
     }
@@ -44,8 +47,8 @@ impl Index {
     pub(crate) fn element(&self, who: u32) -> &ElementPlaces
         ensures { result.now ≡ kept self.now who }
     {
-        match self.elements.get(&who) {
-            Some(element) => element,
+        match self.rows.get(who) {
+            Some(row) => &self.elements[row].1,
             None => &self.absent,
         }
     }
@@ -64,28 +67,36 @@ impl Index {
             → kept self.new serial ≡ noted_at who kind place serial (kept self.old serial)) }
         ensures err { OnErr result ((serial : ℕ) → kept self.new serial ≡ kept self.old serial) }
     {
-        if let Some(element) = self.elements.get_mut(&who) {
-            return element.note(kind, place);
-        }
-        let mut element = ElementPlaces::new(alloc);
-        element.note(kind, place)?;
-        self.elements.insert(who, element)?;
-        Ok(())
+        let row = self.row(alloc, who)?;
+        self.elements[row].1.note(kind, place)
     }
 
-    /// Drops the last entry, which is of this kind and on this element. An element without
-    /// entries takes no memory.
+    /// Drops the last entry, which is of this kind and on this element. An element keeps its row.
     pub(crate) fn forget(&mut self, who: u32, kind: StepKind)
         ensures { (serial : ℕ) → kept self.new serial
             ≡ forgotten_at who kind serial (kept self.old serial) }
     {
-        let mut is_empty = false;
-        if let Some(element) = self.elements.get_mut(&who) {
-            element.forget(kind);
-            is_empty = element.is_empty();
+        if let Some(row) = self.rows.get(who) {
+            self.elements[row].1.forget(kind);
         }
-        if is_empty {
-            self.elements.remove(&who);
+    }
+
+    // The row of an element, which is made where there is none.
+    fn row(&mut self, alloc: Global, who: u32) -> Result<usize, AllocError>
+        ensures row { IfOk result (λ row. row_of self.new who ≡ Some row) }
+        ensures same { (serial : ℕ) → kept self.new serial ≡ kept self.old serial }
+    {
+        if let Some(row) = self.rows.get(who) {
+            return Ok(row);
+        }
+        let row = self.elements.len();
+        self.elements.push((who, ElementPlaces::new(alloc)))?;
+        match self.rows.put(who, row) {
+            Ok(_) => Ok(row),
+            Err(_) => {
+                self.elements.pop();
+                Err(AllocError)
+            }
         }
     }
 }

@@ -14,6 +14,9 @@ use std::cmp::Ordering;
 pub fn comes_before(a: Key, b: Key) -> bool
     ensures { result ≡ Keys.comes_before a b }
 {
+    if a.value != b.value {
+        return a.value < b.value;
+    }
     order_of(a, b).is_lt()
 }
 

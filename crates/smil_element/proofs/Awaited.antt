@@ -1,6 +1,6 @@
 -- Instance times with those put in that are expected.
 use Rattle.std.proofs.Common.{◌≡◌, refl, sym, ◌∙◌, ap, ℕ, ◌+◌, ℤ, List, [], ◌∷◌, ◌++◌, Bool, true, false, take, subst}
-use Rattle.std.specs.Prelude.{Option, None, Some, ◌||◌, if◌then◌else◌, ◌+ℤ◌, int_le, map, filter_map, flat_map, option_to_list, slice_get}
+use Rattle.std.specs.Prelude.{Option, None, Some, ◌||◌, if◌then◌else◌, ◌+ℤ◌, int_le, map, filter_map, flat_map, option_map, option_to_list, slice_get}
 use Rattle.std.proofs.lemmas.List.Concat.{flat_map-append}
 use Rattle.std.proofs.lemmas.List.Elements.{filter_map-append}
 use Rattle.smil_model.specs.declared.times.Time.{Time}
@@ -34,11 +34,23 @@ module _ (h : History) (intervals : ℕ → Option Interval) (now : ℤ) (e : �
   abbrev edge_given : Option ℤ
   edge_given = interval_edge s.edge (is_active h.diary s.of) (intervals s.of)
 
-  pub none_standing : (outer_stands h e || outer_stands h s.of) ≡ true → [] ≡ expected_by h intervals now e s
-  none_standing stand = ap (λ t. times_unless t edge_given) (sym stand)
+  pub none_given : None ≡ edge_given → [] ≡ expected_by h intervals now e s
+  none_given is = by (outer_stands h e || outer_stands h s.of) ∙ ap (times_unless (outer_stands h e || outer_stands h s.of)) is
+    where
+      by : (t : Bool) → [] ≡ times_unless t None
+      by true = refl
+      by false = refl
 
-  pub one_running : (value : Option ℤ) → (outer_stands h e || outer_stands h s.of) ≡ false → value ≡ edge_given → times_unless false value ≡ expected_by h intervals now e s
-  one_running value run is = (λ i. times_unless (sym run i) (is i))
+  -- by what the value is on the clock of the element's time parent, which is there while both run
+  pub one_given : (shown : Option ℤ) (value : ℤ) → Some value ≡ edge_given → shown ≡ (if outer_stands h e || outer_stands h s.of then None else Some (between h s.of e value now)) → option_to_list (option_map (λ v. within_horizon (v +ℤ s.offset)) shown) ≡ expected_by h intervals now e s
+  one_given shown value edge is =
+      ap (λ o. option_to_list (option_map (λ v. within_horizon (v +ℤ s.offset)) o)) is
+      ∙ by (outer_stands h e || outer_stands h s.of)
+      ∙ ap (times_unless (outer_stands h e || outer_stands h s.of)) edge
+    where
+      by : (t : Bool) → option_to_list (option_map (λ v. within_horizon (v +ℤ s.offset)) (if t then None else Some (between h s.of e value now))) ≡ times_unless t (Some value)
+      by true = refl
+      by false = refl
 
 -- ---- what all items give
 

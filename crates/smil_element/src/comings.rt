@@ -20,10 +20,8 @@ use super::facts::{attrs_of, parent_of, played_of};
 use super::happening::{Change, DueChange};
 use super::present::Present;
 use smil_duration::Bounds;
-use smil_model::{
-    Attrs, BEGIN_CLASS, EMPTY_END_CLASS, END_CLASS, Interval, Key, Play, Time, later,
-};
-use smil_past::Past;
+use smil_model::{BEGIN_CLASS, EMPTY_END_CLASS, END_CLASS, Interval, Key, Play, Time, later};
+use smil_past::{Makeup, Past};
 
 /// What comes of an element: its begin or its end, and its repeat.
 #[derive(Clone, Copy)]
@@ -45,7 +43,7 @@ pub fn comings_of(present: &Present<'_>, place: u32, made: &Evaluation) -> DueCh
         ≡ coming_by (history_of present.now.past.now) made.now.interval made.now.simple
         present.now.moment place e }
 {
-    let repeat = if present.past.book().active(present.who) {
+    let repeat = if present.past.active(present.who) {
         repeat_of(present, place, made.simple)
     } else {
         None
@@ -69,7 +67,7 @@ fn moved_of(present: &Present<'_>, place: u32, interval: Option<Interval>) -> Op
     if present.past.clocks().outer_stands(present.who) {
         return None;
     }
-    if present.past.book().active(present.who) {
+    if present.past.active(present.who) {
         end_of(present, place, interval)
     } else {
         Some(begin_of(present, place, interval))
@@ -154,14 +152,14 @@ fn may_repeat(past: &Past, who: u32) -> bool
         ≡ (is_some e.attrs.repeat_count || is_some e.attrs.repeat_dur)
         && not (stands (history_of past.now) who) }
 {
-    repeats(attrs_of(past, who)) && !past.clocks().stands(who)
+    repeats(past.makeup(who)) && !past.clocks().stands(who)
 }
 
 // Whether attributes have what repeats an element.
-fn repeats(attrs: &Attrs) -> bool
-    ensures { result ≡ (is_some attrs.now.repeat_count || is_some attrs.now.repeat_dur) }
+fn repeats(makeup: &Makeup) -> bool
+    ensures { result ≡ (is_some makeup.now.count || is_some makeup.now.repeat_dur) }
 {
-    attrs.repeat_count.is_some() || attrs.repeat_dur.is_some()
+    makeup.count.is_some() || makeup.repeat_dur.is_some()
 }
 
 // The repeat of an element that may repeat, where its iteration ends at a number and another

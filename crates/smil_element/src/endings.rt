@@ -1,6 +1,6 @@
 //! When elements end for their containers, and when a container's time children end.
 
-ghost use Rattle.std.specs.Prelude.{◌≡◌, ℤ, Some, true, map, option_map, IfOk, OnOk, if◌then◌else◌};
+ghost use Rattle.std.specs.Prelude.{◌≡◌, ◌↔◌, IsTrue, ℤ, Some, true, map, option_map, IfOk, OnOk, if◌then◌else◌};
 ghost use Rattle.smil_model.specs.declared.document.Endsync.{Endsync as AnyEndsync};
 ghost use Rattle.smil_model.specs.declared.document.Node.{Node as AnyNode};
 ghost use Rattle.smil_model.specs.declared.interval.Interval.{Interval as AnyInterval};
@@ -15,7 +15,7 @@ ghost use Rattle.smil_past.specs.Past.{history_of};
 ghost use Rattle.smil_instance_rows.specs.Places.{last_alone};
 ghost use Rattle.smil_element.specs.Endings.{ending_by};
 
-use super::facts::{attrs_of, kind_of, parent_of, played_of};
+use super::facts::{attrs_of, kind_of, played_of};
 use super::intervals::{Container, Intervals};
 use smil_endsync::{by_endsync, implicit};
 use smil_model::{Attrs, ChildEnd, Endsync, Interval, Kind, Time};
@@ -30,6 +30,20 @@ pub struct Ending {
     pub latest: Option<Time>,
 }
 
+/// Whether two endings are the same. It takes no memory.
+pub fn is_same_ending(one: Ending, other: Ending) -> bool
+    ensures { IsTrue result ↔ (one ≡ other) }
+{
+    is_same_time(one.first, other.first) && is_same_time(one.latest, other.latest)
+}
+
+// Whether two times, of which either may be absent, are the same.
+fn is_same_time(one: Option<Time>, other: Option<Time>) -> bool
+    ensures { IsTrue result ↔ (one ≡ other) }
+{
+    one == other
+}
+
 /// The first and the latest end of an element that has this interval. It takes no memory.
 pub fn ending_of(past: &Past, who: u32, interval: Option<Interval>) -> Ending
     requires { has_element past.now.document.nodes who ≡ true }
@@ -37,7 +51,7 @@ pub fn ending_of(past: &Past, who: u32, interval: Option<Interval>) -> Ending
 {
     let played = played_of(past, who);
     let coming = coming_end(interval);
-    let deferred = past.book().deferred(who, parent_of(past, who));
+    let deferred = played.shown_deferred.is_some();
     Ending {
         first: finish_of(played.first_finished).or(coming),
         latest: coming.or(latest_of(deferred, finish_of(played.last_finished))),

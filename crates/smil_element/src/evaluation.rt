@@ -13,12 +13,12 @@ ghost use Rattle.smil_past.specs.Past.{IsPresent, history_of};
 ghost use Rattle.smil_element.specs.Element.{IsEvaluated};
 
 use super::expected::{EvaluationInput, is_settled, pour_begins, pour_ends};
-use super::facts::{attrs_of, facts_of, kind_of, played_of};
+use super::facts::{facts_of, kind_of, played_of};
 use super::intervals::{Container, Containers, Intervals};
 use super::present::Present;
-use smil_duration::{implicit_by_kind, simple, takes_implicit};
-use smil_interval::evaluate;
-use smil_model::{ChildEnd, Edge, Interval, Kind, Steps, Time};
+use smil_duration::implicit_by_kind;
+use smil_interval::{Steps, evaluate};
+use smil_model::{ChildEnd, Edge, Interval, Kind, Time};
 use smil_past::Past;
 use std::alloc::{AllocError, Global};
 use std::sync::ledger::Ledger;
@@ -144,11 +144,9 @@ fn simple_duration<J: Containers>(
         → IfOk result (λ simple. simple
         ≡ simple_of (history_of past.now) (J.given intervals.now) e) }
 {
-    let attrs = attrs_of(past, who);
-    if takes_implicit(attrs) {
-        implicit_duration(past, intervals, who, children)
-    } else {
-        Ok(simple(attrs, Time::Unresolved))
+    match past.makeup(who).simple {
+        Some(simple) => Ok(simple),
+        None => implicit_duration(past, intervals, who, children),
     }
 }
 
@@ -198,9 +196,11 @@ fn container_duration<J: Containers>(
         → IfOk result (λ implicit. implicit
         ≡ container_implicit (history_of past.now) (J.given intervals.now) e) }
 {
-    if !past.book().active(who) {
+    past.possible();
+    let played = played_of(past, who);
+    if played.begun.is_none() {
         return Ok(Time::Unresolved);
     }
-    let start = played_of(past, who).start;
+    let start = played.start;
     intervals.implicit(&Container { past, who, start }, children)
 }

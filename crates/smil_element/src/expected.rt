@@ -39,15 +39,10 @@ pub fn expected<J: Intervals>(
     ensures { option_to_list result ≡ expected_times (history_of reading.now.past.now)
         (J.given reading.now.intervals.now) reading.now.moment who sync.of sync.offset sync.edge }
 {
-    let clocks = reading.past.clocks();
-    if clocks.outer_stands(who) || clocks.outer_stands(sync.of) {
-        return None;
-    }
     let value = edge_value(reading, sync)?;
-    Some(moved(
-        clocks.between(sync.of, who, value, reading.moment),
-        sync.offset,
-    ))
+    let clocks = reading.past.clocks();
+    let shown = clocks.running_between(sync.of, who, value, reading.moment)?;
+    Some(moved(shown, sync.offset))
 }
 
 // The begin of an interval before it has happened, or its end where that is a number.
@@ -59,7 +54,7 @@ fn edge_value<J: Intervals>(reading: &EvaluationInput<J>, sync: Syncbase) -> Opt
     let interval = reading.intervals.interval(sync.of)?;
     match sync.edge {
         Edge::Begin => {
-            if reading.past.book().active(sync.of) {
+            if reading.past.active(sync.of) {
                 None
             } else {
                 Some(interval.begin)

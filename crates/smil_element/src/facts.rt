@@ -2,7 +2,6 @@
 
 ghost use Rattle.std.specs.Prelude.{◌≡◌, ℕ, Some, None, true, Option, IfSome, option_map};
 ghost use Rattle.smil_model.specs.declared.document.Node.{Node as AnyNode};
-ghost use Rattle.std.specs.List.{list_any};
 ghost use Rattle.smil_model.specs.declared.interval.Interval.{Interval as AnyInterval};
 ghost use Rattle.smil_model.specs.document.Document.{elements, node_at, time_parent};
 ghost use Rattle.smil_model.specs.diary.Clocks as clocks;
@@ -15,12 +14,11 @@ ghost use Rattle.smil_past.specs.Played.{played as kept_of};
 ghost use Rattle.smil_element.specs.Element.{interval_in, shift_of};
 
 use super::present::Present;
-use smil_duration::Bounds;
-use smil_model::{Attrs, EndList, Facts, Interval, Item, Items, Kind, Play, Time};
+use smil_model::{Attrs, Facts, Interval, Kind, Play, Time};
 use smil_past::{Past, PastInterval, PlayFacts};
 
-/// The facts of an element at a moment, by its simple duration. It takes no memory, and a step for
-/// each node above it.
+/// The facts of an element at a moment, by its simple duration. It takes no memory, and log n steps
+/// for n repeats.
 pub fn facts_of(present: &Present<'_>, simple: Time) -> Facts
     requires element { has_element present.now.past.now.document.nodes present.now.who ≡ true }
     requires moment { IsPresent present.now.past.now present.now.moment }
@@ -33,29 +31,28 @@ pub fn facts_of(present: &Present<'_>, simple: Time) -> Facts
     past.possible();
     let parent = parent_of(past, present.who);
     let played = played_of(past, present.who);
-    let attrs = attrs_of(past, present.who);
-    let bounds = Bounds::of_attrs(attrs);
+    let makeup = past.makeup(present.who);
     Facts {
         alive: is_alive(past, parent),
-        deferred: past.book().deferred(present.who, parent),
-        play: present_play(present, parent, &played),
+        deferred: played.shown_deferred.is_some(),
+        play: present_play(present, parent, played),
         parent_start: parent_start(past, parent),
-        last: last_interval(&played),
+        last: last_interval(played),
         passed: played.passed,
-        end_list: end_list(&attrs.end),
-        restart: past.tree().restart_of(present.who),
-        min: bounds.min(),
-        max: bounds.max(),
+        end_list: makeup.end_list,
+        restart: makeup.restart,
+        min: makeup.min,
+        max: makeup.max,
         simple,
-        count: attrs.repeat_count,
-        repeat_dur: attrs.repeat_dur,
+        count: makeup.count,
+        repeat_dur: makeup.repeat_dur,
     }
 }
 
 // What is kept of the plays of an element.
-pub(crate) fn played_of(past: &Past, who: u32) -> PlayFacts
+pub(crate) fn played_of(past: &Past, who: u32) -> &PlayFacts
     requires { has_element past.now.document.nodes who ≡ true }
-    ensures { result ≡ kept_of (history_of past.now) who }
+    ensures { result.now ≡ kept_of (history_of past.now) who }
 {
     past.plays().of(who).unwrap()
 }
@@ -96,7 +93,7 @@ pub(crate) fn is_alive(past: &Past, parent: Option<u32>) -> bool
         → result ≡ diary.lives_under node past.now.diary }
 {
     match parent {
-        Some(parent) => past.book().active(parent),
+        Some(parent) => past.active(parent),
         None => true,
     }
 }
@@ -123,9 +120,7 @@ fn present_play(present: &Present<'_>, parent: Option<u32>, played: &PlayFacts) 
         → serial_of (time_parent present.now.past.now.document.nodes present.now.who) ≡ parent
         → result ≡ model.present_play (history_of present.now.past.now) present.now.moment e }
 {
-    if !present.past.book().active(present.who) {
-        return None;
-    }
+    present.past.possible();
     let begin = played.begun?;
     Some(Play {
         begin,
@@ -164,38 +159,5 @@ fn interval_of(last: PastInterval) -> Interval
     Interval {
         begin: last.begin,
         end: Time::At(last.finish),
-    }
-}
-
-// What an end list leaves open where it has no usable end instance.
-fn end_list(items: &Option<Items>) -> EndList
-    ensures { result ≡ model.end_list_of items.now }
-{
-    match items {
-        None => EndList::Absent,
-        Some(items) => {
-            if hears(items) {
-                EndList::Hearing
-            } else {
-                EndList::Plain
-            }
-        }
-    }
-}
-
-// Whether a list has an item that hears.
-fn hears(items: &Items) -> bool
-    ensures { result ≡ list_any model.is_event_item items.now }
-{
-    items.slice().iter().any(|item| is_heard(item))
-}
-
-// Whether an item is for an event, a repeat or an access key.
-fn is_heard(item: &Item) -> bool
-    ensures { result ≡ model.is_event_item item.now }
-{
-    match item {
-        Item::Event { .. } | Item::Repeat { .. } | Item::Key { .. } => true,
-        Item::Offset { .. } | Item::Sync { .. } | Item::Indefinite => false,
     }
 }

@@ -2,7 +2,7 @@
 
 ghost use Rattle.std.specs.Prelude.{◌≡◌, ◌||◌, ◌&&◌, not, pos, true, false, Option, Some, None, IfSome, is_some};
 ghost use Rattle.smil_model.specs.declared.document.Node.{Node as AnyNode};
-ghost use Rattle.smil_model.specs.document.Defaults.{effective_fill, fill_by, fill_when_auto};
+ghost use Rattle.smil_model.specs.document.Defaults.{effective_fill};
 ghost use Rattle.smil_model.specs.document.Document.{elements, node_at, serial_of, time_parent};
 ghost use Rattle.smil_model.specs.diary.Diary.{is_deferred, lives_under};
 ghost use Rattle.smil_model.specs.diary.Lawful.{has_element};
@@ -11,8 +11,8 @@ ghost use Rattle.smil_past.specs.Past.{history_of};
 ghost use Rattle.smil_element.specs.Shown.{frozen_at, is_cut};
 
 use super::displaced::is_displaced;
-use super::facts::{attrs_of, is_alive, parent_of, played_of};
-use smil_model::{Attrs, Fill};
+use super::facts::{is_alive, parent_of, played_of};
+use smil_model::Fill;
 use smil_past::{Past, PastInterval};
 
 // Whether an element is frozen; false where there is none. It takes no memory, and a step for each
@@ -26,7 +26,7 @@ pub(crate) fn is_frozen(past: &Past, who: Option<u32>) -> bool
         return false;
     };
     past.possible();
-    if past.book().active(who) {
+    if past.active(who) {
         return false;
     }
     let above = is_frozen(past, parent_of(past, who));
@@ -42,10 +42,11 @@ fn rests_frozen(past: &Past, who: u32, above: bool) -> bool
         (lives_under (time_parent past.now.document.nodes who) past.now.diary || above) above e)) }
 {
     let parent = parent_of(past, who);
-    if past.book().deferred(who, parent) {
+    let played = played_of(past, who);
+    if played.shown_deferred.is_some() {
         return false;
     }
-    let last = played_of(past, who).last_finished;
+    let last = played.last_finished;
     let kept = last.is_some() && is_kept(past, who);
     freezes(last, kept, shows(past, parent, above), above)
 }
@@ -89,31 +90,5 @@ pub(crate) fn fill_of(past: &Past, who: u32) -> Fill
     ensures { (e : AnyNode) → node_at (elements past.now.document.nodes) who ≡ Some e → result
         ≡ effective_fill past.now.document.nodes e }
 {
-    past.possible();
-    fill_by(attrs_of(past, who), past.tree().fill_of(who))
-}
-
-// What `auto` means by the other attributes.
-fn fill_by(attrs: &Attrs, fill: Fill) -> Fill
-    ensures { result ≡ fill_by attrs.now fill }
-{
-    match fill {
-        Fill::Auto => fill_when_auto(attrs),
-        stated => stated,
-    }
-}
-
-// `auto` freezes where nothing limits the duration.
-fn fill_when_auto(attrs: &Attrs) -> Fill
-    ensures { result ≡ fill_when_auto attrs.now }
-{
-    if attrs.dur.is_some()
-        || attrs.end.is_some()
-        || attrs.repeat_count.is_some()
-        || attrs.repeat_dur.is_some()
-    {
-        Fill::Remove
-    } else {
-        Fill::Freeze
-    }
+    past.makeup(who).fill
 }

@@ -58,17 +58,17 @@ fn view_facts(present: &Present<'_>, interval: Option<Interval>, above: bool) ->
     past.possible();
     let parent = parent_of(past, who);
     let played = played_of(past, who);
-    let last = last_shown(&played);
+    let last = last_shown(played);
     let fill = fill_of(past, who);
     ViewFacts {
         serial: who,
-        active: past.book().active(who),
+        active: played.begun.is_some(),
         paused: past.book().paused(who),
         deferred: played.shown_deferred,
         interval,
         begun: played.shown_begun,
         last,
-        cut: was_cut(&played),
+        cut: was_cut(played),
         fill,
         displaced: minds(fill, last) && is_displaced(past, who),
         parent_shows: shows(past, parent, above),

@@ -1,8 +1,9 @@
 -- Which child is named, and the ends that are put to one.
 use Rattle.std.proofs.Common.{◌≡◌, refl, ◌∙◌, ap, sym, ℕ, ℤ, zero, suc, ◌<◌, List, [], ◌∷◌, length, get_or, set, Option, Some, None, Bool, true, false, arith}
-use Rattle.std.specs.Prelude.{◌+◌, slice_get, cond, not, nat_lt, map, find, unwrap_or}
+use Rattle.std.specs.Prelude.{◌+◌, slice_get, cond, not, nat_lt, map, find, unwrap_or, option_map, IfSome}
 use Rattle.std.specs.List.{position, position_or_len}
 use Rattle.std.proofs.lemmas.Bool.{ltb-false}
+use Rattle.std.proofs.lemmas.List.{length-map}
 use Rattle.std.proofs.lemmas.List.Folds.{find_at}
 use Rattle.std.proofs.lemmas.Option.{slice_get_past}
 use Rattle.smil_model.specs.declared.times.Time.{Time}
@@ -45,12 +46,20 @@ sums_set [] k end' = refl
 sums_set (c ∷ cs) zero end' = refl
 sums_set (c ∷ cs) (suc k) end' = ap (λ rest. one_end c ∷ rest) (sums_set cs k end')
 
+-- where the children are summed there are as many summaries
+pub long_enough : (cs : List ChildEnd) (summaries : Option (List EndSummary)) (k : ℕ) → IfSome summaries (λ (all : List EndSummary). all ≡ map one_end cs) → k < length cs → IfSome summaries (λ (all : List EndSummary). k < length all)
+long_enough cs None k own lt = tt
+long_enough cs (Some all) k own lt = omega (arith, lt, ap (λ (xs : List EndSummary). length xs) own, length-map cs one_end)
+
+-- the summaries have that of the child where they are kept
+sums_next : (cs : List ChildEnd) (old : Option (List EndSummary)) (k : ℕ) (end' : ChildEnd) → IfSome old (λ (all : List EndSummary). all ≡ map one_end cs) → IfSome (option_map (λ (all : List EndSummary). set all k (one_end end')) old) (λ (all : List EndSummary). all ≡ map one_end (set cs k end'))
+sums_next cs None k end' own = tt
+sums_next cs (Some all) k end' own = ap (λ xs. set xs k (one_end end')) own ∙ sums_set cs k end'
+
 -- after the ends of a child are put
-pub summed_next : (children : List ChildEnd) (named : Option ℕ) (old : List EndSummary) (child : ℕ) (first latest : Option Time) (own : ChildEnd) → AreSummed children named old → own ≡ get_or children child own → child < length children → AreSummed (set children child (record { named = own.named; first = first; latest = latest })) named (set old child (one_end (record { named = own.named; first = first; latest = latest })))
+pub summed_next : (children : List ChildEnd) (named : Option ℕ) (old : Option (List EndSummary)) (child : ℕ) (first latest : Option Time) (own : ChildEnd) → AreSummed children named old → own ≡ get_or children child own → child < length children → AreSummed (set children child (record { named = own.named; first = first; latest = latest })) named (option_map (λ (all : List EndSummary). set all child (one_end (record { named = own.named; first = first; latest = latest }))) old)
 summed_next children named old child first latest own was is within = record {
-  own =
-      ap (λ xs. set xs child (one_end (record { named = own.named; first = first; latest = latest }))) was.own
-      ∙ sums_set children child (record { named = own.named; first = first; latest = latest });
+  own = sums_next children old child (record { named = own.named; first = first; latest = latest }) was.own;
   named_is =
       was.named_is
       ∙ named_stays children child first latest

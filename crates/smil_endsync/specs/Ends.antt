@@ -1,5 +1,5 @@
 -- What the ends of children side by side come to.
-use Rattle.std.specs.Prelude.{◌≡◌, ℕ, zero, suc, List, [], ◌∷◌, map, Option, Some, None, unwrap_or}
+use Rattle.std.specs.Prelude.{◌≡◌, ℕ, zero, suc, List, [], ◌∷◌, map, Option, Some, None, unwrap_or, IfSome}
 use Rattle.std.specs.List.{position}
 use Rattle.smil_model.specs.declared.times.Time.{Time}
 use Rattle.smil_model.specs.declared.times.Time.TheVariants.{Unresolved}
@@ -35,8 +35,9 @@ set_ends (c ∷ cs) zero first latest =
     record { named = c.named; first = first; latest = latest } ∷ cs
 set_ends (c ∷ cs) (suc child) first latest = c ∷ set_ends cs child first latest
 
--- what each child comes to, and which one is named
+-- what each child comes to, where that is summed, and which one is named
 pub record AreSummed
-    (children : List ChildEnd) (named : Option ℕ) (summaries : List EndSummary) : Type 0 where
-  pub own : summaries ≡ map one_end children
+    (children : List ChildEnd) (named : Option ℕ) (summaries : Option (List EndSummary))
+    : Type 0 where
+  pub own : IfSome summaries (λ (all : List EndSummary). all ≡ map one_end children)
   pub named_is : named ≡ position (λ (c : ChildEnd). c.named) children

@@ -1,14 +1,14 @@
 //! The ends of the time children of one container, kept under a change of one child.
 
-ghost use Rattle.std.specs.Prelude.{◌≡◌, ◌<◌, ◌≤◌, Some, IfOk, length, find, map, slice_get};
+ghost use Rattle.std.specs.Prelude.{◌≡◌, ◌↔◌, ◌<◌, ◌≤◌, List, Some, IfOk, IfSome, IsTrue, length, find, map, option_map, slice_get, slice_set};
 ghost use Rattle.std.specs.List.{position};
-ghost use Rattle.smil_model.specs.Tournaments.{most_items};
+ghost use Rattle.smil_model.specs.Tournaments.{IsSum, most_items};
 ghost use Rattle.smil_model.specs.declared.interval.ChildEnd.{ChildEnd as AnyEnd};
 ghost use Rattle.smil_model.specs.interval.Durations;
 ghost use Rattle.smil_model.specs.interval.Durations.{container_duration};
-ghost use Rattle.smil_endsync.specs.Ends.{one_end, set_ends};
+ghost use Rattle.smil_endsync.specs.Ends.{both_ends, no_ends, one_end, set_ends};
 
-use super::{greatest_known, seq_end, since};
+use super::{all_end, first_end, greatest_known, last_end, seq_end, since};
 use smil_model::{
     ChildEnd, Contender, Duplicate, Endsync, Kind, Time, Tournament, greatest, least,
 };
@@ -50,6 +50,13 @@ impl Contender for EndSummary {
             all: greatest_known(self.all, behind.all),
         }
     }
+
+    // Whether two groups of children come to the same.
+    fn is_same(self, other: EndSummary) -> bool {
+        is_same_time(self.first, other.first)
+            && is_same_end(self.latest, other.latest)
+            && is_same_end(self.all, other.all)
+    }
 }
 
 /// The ends of the time children of a container, in document order, under a tournament of what
@@ -59,8 +66,8 @@ pub struct Ends {
     children: Vec<ChildEnd>,
     /// Which child the container's `endsync` names.
     named: Option<usize>,
-    /// What each child comes to.
-    summaries: Tournament<EndSummary>,
+    /// What each child comes to, where that is summed.
+    summaries: Option<Tournament<EndSummary>>,
 }
 
 impl Model for Ends {
@@ -79,23 +86,23 @@ impl Duplicate for Ends {
     fn copy(&self) -> Result<Self, AllocError> {
         Ok(Ends {
             named: self.named,
-            summaries: self.summaries.copy()?,
+            summaries: copy_of(&self.summaries)?,
             children: self.children.clone()?,
         })
     }
 }
 
 impl Ends {
-    /// These ends, of at most 2^32 children. It takes a step for each child, and memory for a
-    /// summary of each and of neighbours; refused where memory runs out.
-    pub fn of(alloc: Global, children: Vec<ChildEnd>) -> Result<Ends, AllocError>
+    /// These ends, of at most 2^32 children. It takes a step for each child, and where they are to
+    /// be summed, as a duration wants that follows from all of them, memory for a summary of each
+    /// and of neighbours; refused where memory runs out.
+    pub fn of(alloc: Global, children: Vec<ChildEnd>, is_summed: bool) -> Result<Ends, AllocError>
         requires { length children.items ≤ most_items }
         ensures { IfOk result (λ ends. ends ≡ children.items) }
     {
-        let summaries = summaries(alloc, &children)?;
         Ok(Ends {
             named: named_place(&children),
-            summaries: Tournament::of(alloc, summaries.as_slice())?,
+            summaries: summed(alloc, &children, is_summed)?,
             children,
         })
     }
@@ -109,7 +116,8 @@ impl Ends {
     }
 
     /// Puts the first and the latest end of a child. Whether it is named stays. It takes log n
-    /// steps for n children, and no memory.
+    /// steps at most for n children that are summed, a fixed number where they are not or the ends
+    /// are as before, and no memory.
     pub fn set(&mut self, child: usize, first: Option<Time>, latest: Option<Time>)
         requires { child < length self.old }
         ensures { self.new ≡ set_ends self.old child first latest }
@@ -120,11 +128,12 @@ impl Ends {
             latest,
         };
         self.children[child] = end;
-        self.summaries.set(child, one(end));
+        put_summary(&mut self.summaries, child, one(end));
     }
 
     /// The implicit duration of an active container with these time children, in milliseconds, as
-    /// the function `implicit` gives it. It takes a fixed number of steps, and no memory.
+    /// the function `implicit` gives it. It takes a fixed number of steps for a seq, by a named
+    /// child and where the ends are summed, else one for each child; and no memory.
     pub fn implicit(&self, kind: Kind, endsync: &Endsync, start: i64) -> Time
         ensures { result ≡ container_duration kind endsync.now start self.now }
     {
@@ -159,26 +168,46 @@ impl Ends {
         }
     }
 
+    // What all children come to, where they are summed.
+    fn top(&self) -> Option<EndSummary>
+        ensures { (sum : List EndSummary → EndSummary) → IsSum no_ends both_ends sum
+            → IfSome result (λ all. all ≡ sum (map one_end self.now)) }
+    {
+        match &self.summaries {
+            Some(summaries) => Some(summaries.top()),
+            None => None,
+        }
+    }
+
     // The greatest of the latest ends. Children without one do not count, and `start` is it where
     // none counts.
     fn last_end(&self, start: i64) -> Time
         ensures { result ≡ Durations.last_end start self.now }
     {
-        self.summaries.top().latest.unwrap_or(Time::At(start))
+        match self.top() {
+            Some(all) => all.latest.unwrap_or(Time::At(start)),
+            None => last_end(start, &self.children),
+        }
     }
 
     // The least of the first ends, none counting as unresolved.
     fn first_end(&self) -> Time
         ensures { result ≡ Durations.first_end self.now }
     {
-        self.summaries.top().first
+        match self.top() {
+            Some(all) => all.first,
+            None => first_end(&self.children),
+        }
     }
 
     // The greatest of the latest ends, none counting as unresolved.
     fn all_end(&self) -> Time
         ensures { result ≡ Durations.all_end self.now }
     {
-        self.summaries.top().all.unwrap_or(Time::Unresolved)
+        match self.top() {
+            Some(all) => all.all.unwrap_or(Time::Unresolved),
+            None => all_end(&self.children),
+        }
     }
 
     // The first end of the named child, none counting as unresolved. Where no child is named, the
@@ -191,6 +220,20 @@ impl Ends {
             None => self.last_end(start),
         }
     }
+}
+
+// Whether two times are the same.
+fn is_same_time(one: Time, other: Time) -> bool
+    ensures { IsTrue result ↔ (one ≡ other) }
+{
+    one == other
+}
+
+// Whether two times, of which either may be absent, are the same.
+fn is_same_end(one: Option<Time>, other: Option<Time>) -> bool
+    ensures { IsTrue result ↔ (one ≡ other) }
+{
+    one == other
 }
 
 // The place of the named child.
@@ -208,6 +251,44 @@ fn one(end: ChildEnd) -> EndSummary
         first: end.first.unwrap_or(Time::Unresolved),
         latest: end.latest,
         all: Some(end.latest.unwrap_or(Time::Unresolved)),
+    }
+}
+
+// What each child comes to, under a tournament, where that is to be summed.
+fn summed(
+    alloc: Global,
+    children: &[ChildEnd],
+    is_summed: bool,
+) -> Result<Option<Tournament<EndSummary>>, AllocError>
+    requires { length children.now ≤ most_items }
+    ensures { IfOk result (λ made. IfSome made (λ all. all ≡ map one_end children.now)) }
+{
+    if !is_summed {
+        return Ok(None);
+    }
+    let summaries = summaries(alloc, children)?;
+    Ok(Some(Tournament::of(alloc, summaries.as_slice())?))
+}
+
+// A copy of what each child comes to, where that is summed.
+fn copy_of(
+    summaries: &Option<Tournament<EndSummary>>,
+) -> Result<Option<Tournament<EndSummary>>, AllocError>
+    ensures { IfOk result (λ copy. copy ≡ summaries.now) }
+{
+    match summaries {
+        Some(summaries) => Ok(Some(summaries.copy()?)),
+        None => Ok(None),
+    }
+}
+
+// Puts what a child comes to, where that is summed.
+fn put_summary(summaries: &mut Option<Tournament<EndSummary>>, child: usize, summary: EndSummary)
+    requires { IfSome summaries.old (λ old. child < length old) }
+    ensures { summaries.new ≡ option_map (λ old. slice_set old child summary) summaries.old }
+{
+    if let Some(summaries) = summaries {
+        summaries.set(child, summary);
     }
 }
 

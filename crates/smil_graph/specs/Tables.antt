@@ -1,6 +1,6 @@
 -- What a graph keeps of its document, by places.
-use Rattle.std.specs.Prelude.{◌≡◌, ℕ, ◌<◌, ◌≤◌, List, [], ◌∷◌, length, filter, Bool, true, false, ◌==◌, ◌&&◌, ◌||◌, if◌then◌else◌, Option, Some, None, nat_eq, slice_get, slice_index_or}
-use Rattle.std.specs.HashMap.{get}
+use Rattle.std.specs.Prelude.{◌≡◌, ℕ, ◌<◌, ◌≤◌, List, [], ◌∷◌, length, filter, Bool, true, false, ◌==◌, ◌&&◌, ◌||◌, if◌then◌else◌, Option, Some, None, slice_get, slice_index_or}
+use Rattle.std.specs.FinMap.{get}
 use Rattle.std.specs.List.{list_any, range_with_len}
 use Rattle.smil_model.specs.declared.document.Node.{Node}
 use Rattle.smil_model.specs.declared.document.Item.{Item}
@@ -138,7 +138,7 @@ AreRanks order ranks = AreFirstPlaces (λ (s : ℕ). s) ranks order
 -- what is kept: places by serial, time parents, time children, looped begins and ends,
 -- who reads whom, who waits for which key, and an order with ranks
 pub record AreTables (document : Document) (t : Tables) : Type 0 where
-  pub indexed : IsIndex document.nodes (node_at document.nodes) (get nat_eq t.places)
+  pub indexed : IsIndex document.nodes (node_at document.nodes) (get t.places)
   pub above : IsTable document.nodes (λ n. time_parent document.nodes n.serial) t.time_parents.items
   pub count : length t.time_children.items ≡ length document.nodes
   pub under : AreTimeChildren document.nodes t.time_parents.items t.time_children.items
@@ -148,4 +148,4 @@ pub record AreTables (document : Document) (t : Tables) : Type 0 where
   pub read : AreReaders document.nodes t.readers.items
   pub waiting : AreWaiting document.nodes t.waiting.items
   pub ordered : IsGraphOrder document.nodes t.order
-  pub ranked : AreRanks t.order (get nat_eq t.ranks)
+  pub ranked : AreRanks t.order (get t.ranks)

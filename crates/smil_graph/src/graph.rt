@@ -1,7 +1,7 @@
 //! The graph of a document.
 
-ghost use Rattle.std.specs.Prelude.{◌≡◌, ◌==◌, ◌++◌, ℕ, List, Some, true, nat_eq, slice_get, OnOk, OnErr, IfOk};
-ghost use Rattle.std.specs.HashMap.{get};
+ghost use Rattle.std.specs.Prelude.{◌≡◌, ◌==◌, ◌++◌, ℕ, List, Some, true, slice_get, OnOk, OnErr, IfOk};
+ghost use Rattle.std.specs.FinMap.{get};
 ghost use Rattle.std.specs.List.{position};
 ghost use Rattle.smil_model.specs.document.Valid.{IsNumberedTree};
 ghost use Rattle.smil_model.specs.reach.Reach as model;
@@ -15,10 +15,9 @@ use super::outline::{TimeTree, is_element_at};
 use super::row::row_at;
 use super::search::search;
 use super::tables::{Tables, serials_at, tables_like, tables_of};
-use smil_model::{Doc, Duplicate, Edge, GrowingList, Serials};
+use smil_model::{Doc, Duplicate, Edge, GrowingList, SerialTable, Serials};
 use smil_tree::Tree;
 use std::alloc::{AllocError, Global};
-use std::collections::HashMap;
 use std::marker::Model;
 
 /// The graph of a document, seen as the document's nodes with an order of the elements: which
@@ -200,8 +199,8 @@ fn reach_from(
 }
 
 // The place of a serial that is an element's.
-fn element_place(doc: &Doc, places: &HashMap<u32, usize>, serial: u32) -> Option<usize>
-    ensures { result ≡ element_place doc.now.nodes (get nat_eq places.now serial) }
+fn element_place(doc: &Doc, places: &SerialTable, serial: u32) -> Option<usize>
+    ensures { result ≡ element_place doc.now.nodes (get places.now serial) }
 {
     match place_of(places, serial) {
         Some(place) if is_element_at(doc, place) => Some(place),
@@ -210,10 +209,10 @@ fn element_place(doc: &Doc, places: &HashMap<u32, usize>, serial: u32) -> Option
 }
 
 // The place of a serial.
-fn place_of(places: &HashMap<u32, usize>, serial: u32) -> Option<usize>
-    ensures { result ≡ get nat_eq places.now serial }
+fn place_of(places: &SerialTable, serial: u32) -> Option<usize>
+    ensures { result ≡ get places.now serial }
 {
-    places.get(&serial).copied()
+    places.get(serial)
 }
 
 // The row at a place; it is empty where there is none.

@@ -1,8 +1,7 @@
 //! Where a reach begins: the element, its time parent, its descendants, and in a seq or excl its
 //! siblings with theirs.
 
-ghost use Rattle.std.specs.Prelude.{◌≡◌, ◌||◌, length, Some, nat_eq, true, slice_get, IfOk};
-ghost use Rattle.std.specs.HashMap.{get};
+ghost use Rattle.std.specs.Prelude.{◌≡◌, ◌||◌, length, Some, true, slice_get, IfOk};
 ghost use Rattle.smil_model.specs.document.Document as model;
 ghost use Rattle.smil_model.specs.document.Valid.{IsNumberedTree};
 ghost use Rattle.smil_graph.specs.Tables.{AreNear, top_of, takes_turns};

@@ -1,7 +1,7 @@
 //! The tree of a document, by places in document order.
 
-ghost use Rattle.std.specs.Prelude.{◌≡◌, ℕ, ◌<◌, ◌&&◌, Some, None, length, nat_eq, IfOk, IfSome, slice_get};
-ghost use Rattle.std.specs.HashMap.{get};
+ghost use Rattle.std.specs.Prelude.{◌≡◌, ℕ, ◌<◌, ◌&&◌, Some, None, length, IfOk, IfSome, slice_get};
+ghost use Rattle.std.specs.FinMap.{get};
 ghost use Rattle.smil_model.specs.document.Document as model;
 ghost use Rattle.smil_model.specs.document.Valid.{IsNumberedTree};
 ghost use Rattle.smil_model.specs.reach.Reach.{is_option};
@@ -10,9 +10,8 @@ ghost use Rattle.smil_graph.specs.Places.{up, IsTable, IsIndex, before, is_eleme
 
 use super::row::{push_one, row_at};
 use super::turned::turned;
-use smil_model::{Doc, GrowingList, Kind, Node};
+use smil_model::{Doc, GrowingList, Kind, Node, SerialTable};
 use std::alloc::{AllocError, Global};
-use std::collections::HashMap;
 
 /// A document with the places of the time parents and of the time children of its nodes.
 #[derive(Drop)]
@@ -33,16 +32,16 @@ pub fn is_element(node: &Node) -> bool
 pub fn parents(
     alloc: Global,
     doc: &Doc,
-    places: &HashMap<u32, usize>,
+    places: &SerialTable,
 ) -> Result<Vec<Option<usize>>, AllocError>
     requires tree { IsNumberedTree doc.now }
-    requires places { IsIndex doc.now.nodes (model.node_at doc.now.nodes) (get nat_eq places.now) }
+    requires places { IsIndex doc.now.nodes (model.node_at doc.now.nodes) (get places.now) }
     ensures { IfOk result (λ table. IsTable doc.now.nodes
         (λ n. model.node_at doc.now.nodes n.parent) table.items) }
 {
     let mut parents = Vec::with_capacity(alloc, doc.len())?;
     for node in doc.nodes() {
-        parents.push(places.get(&node.parent).copied())?;
+        parents.push(places.get(node.parent))?;
     }
     Ok(parents)
 }

@@ -1,20 +1,21 @@
 //! The places of nodes in document order, by serial and by id.
 
-ghost use Rattle.std.specs.Prelude.{◌≡◌, ◌==◌, ℕ, List, Some, None, ◌&&◌, if◌then◌else◌, nat_eq, bytes_eq, IfOk, OnOk};
-ghost use Rattle.std.specs.HashMap.{get, get_by};
+ghost use Rattle.std.specs.Prelude.{◌≡◌, ◌==◌, ℕ, List, Some, None, ◌&&◌, if◌then◌else◌, bytes_eq, IfOk, OnOk};
+ghost use Rattle.std.specs.FinMap.{get};
+ghost use Rattle.std.specs.HashMap.{get_by};
 ghost use Rattle.std.specs.Option.{option_or};
 ghost use Rattle.smil_model.specs.document.Document.{node_at, element_named, is_element, has_id};
 ghost use Rattle.smil_graph.specs.Places.{IsIndex};
 
 use super::outline::is_element;
-use smil_model::{Doc, Node, first_places};
+use smil_model::{Doc, Node, SerialTable, first_places};
 use std::alloc::{AllocError, Global};
 use std::collections::HashMap;
 
 /// The place of the first node with each serial.
-pub fn serial_places(alloc: Global, doc: &Doc) -> Result<HashMap<u32, usize>, AllocError>
+pub fn serial_places(alloc: Global, doc: &Doc) -> Result<SerialTable, AllocError>
     ensures { IfOk result (λ places. IsIndex doc.now.nodes (node_at doc.now.nodes)
-        (get nat_eq places)) }
+        (get places)) }
 {
     first_places(alloc, doc.nodes())
 }

@@ -18,13 +18,13 @@ use super::outline::{TimeTree, parents, time_children, time_parents};
 use super::places::{id_places, serial_places};
 use super::turned::turned;
 use super::waiting::waiting;
-use smil_model::{Doc, Edge, GrowingList, Serials, first_places};
+use smil_model::{Doc, Edge, GrowingList, SerialTable, Serials, first_places};
 use std::alloc::{AllocError, Global};
 use std::collections::HashMap;
 
 /// What a graph keeps of its document, by places in document order.
 pub struct Tables {
-    pub places: HashMap<u32, usize>,
+    pub places: SerialTable,
     pub time_parents: Vec<Option<usize>>,
     pub time_children: Vec<GrowingList<usize>>,
     pub begins: Vec<GrowingList<bool>>,
@@ -33,7 +33,7 @@ pub struct Tables {
     pub readers: Vec<Serials>,
     pub waiting: Vec<GrowingList<usize>>,
     pub order: Serials,
-    pub ranks: HashMap<u32, usize>,
+    pub ranks: SerialTable,
 }
 
 impl Drop for Tables {

@@ -5,7 +5,9 @@ ghost use Rattle.smil_model.specs.declared.order.Refusal.TheVariants as refusal;
 ghost use Rattle.smil_model.specs.shown.Answers.{IsGiven};
 ghost use Rattle.smil_house.specs.House.{place_of, load_refusal, moment_of, without, AreKept, IsAnsweredBy, IsRefused, Takes};
 
-use smil_model::{Bytes, Order, PRESENTATIONS, Player, Refusal, Steps};
+use super::player::Player;
+use smil_interval::Steps;
+use smil_model::{Bytes, Order, PRESENTATIONS, Refusal};
 use std::alloc::{AllocError, Global};
 use std::marker::Model;
 use std::sync::ledger::Ledger;

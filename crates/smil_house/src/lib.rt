@@ -2,5 +2,7 @@
 #![tactic(auto)]
 
 pub mod house;
+pub mod player;
 
 pub use house::House;
+pub use player::Player;

@@ -11,16 +11,15 @@ use super::cell::Cell;
 use super::copies::copy_each;
 use super::item_times::InstanceTime;
 use super::row::InstanceRow;
-use smil_model::{Duplicate, Edge, Time};
+use smil_model::{Duplicate, Edge, SerialTable, Time};
 use std::alloc::{AllocError, Global};
-use std::collections::HashMap;
 use std::marker::Model;
 
 /// The instance times of all elements, with the indices of their rows by serial; seen as the list
 /// of the rows.
 pub struct Rows {
     rows: Vec<InstanceRow>,
-    indices: HashMap<u32, usize>,
+    indices: SerialTable,
 }
 
 impl Drop for Rows {
@@ -34,8 +33,8 @@ impl Drop for Rows {
 }
 
 impl Model for Rows {
-    ghost use Rattle.std.specs.Prelude.{◌≡◌, ℕ, List, nat_eq};
-    ghost use Rattle.std.specs.HashMap.{get};
+    ghost use Rattle.std.specs.Prelude.{◌≡◌, ℕ, List};
+    ghost use Rattle.std.specs.FinMap.{get};
     ghost use Rattle.smil_instance_rows.specs.Rows.{ElementTimes};
     ghost use Rattle.smil_instance_rows.specs.Readings.{index_in};
 
@@ -43,14 +42,14 @@ impl Model for Rows {
 
     ghost view = { λ a. a.rows.items };
 
-    ghost invariant = { λ a. (who : ℕ) → get nat_eq a.indices who ≡ index_in a.rows.items who };
+    ghost invariant = { λ a. (who : ℕ) → get a.indices who ≡ index_in a.rows.items who };
 }
 
 impl Duplicate for Rows {
     fn copy(&self) -> Result<Self, AllocError> {
         Ok(Rows {
             rows: copy_each(*self.rows.allocator(), &self.rows)?,
-            indices: self.indices.clone()?,
+            indices: self.indices.copy()?,
         })
     }
 }
@@ -62,7 +61,7 @@ impl Rows {
     {
         Rows {
             rows: Vec::new(alloc),
-            indices: HashMap::new(alloc),
+            indices: SerialTable::new(alloc),
         }
     }
 
@@ -82,7 +81,7 @@ impl Rows {
         let serial = row.serial();
         let index = self.len();
         self.rows.push(row)?;
-        match self.indices.insert(serial, index) {
+        match self.indices.put(serial, index) {
             Ok(_) => Ok(()),
             Err(_) => {
                 self.rows.pop();
@@ -185,7 +184,7 @@ impl Rows {
     pub fn index_of(&self, who: u32) -> Option<usize>
         ensures { result ≡ index_in self.now who }
     {
-        self.indices.get(&who).copied()
+        self.indices.get(who)
     }
 
     /// The serial of the element of a row, by the row's index; None exactly where the index is not
@@ -200,8 +199,8 @@ impl Rows {
     fn row(&self, who: u32) -> Option<&InstanceRow>
         ensures { option_copied result ≡ row_in self.now who }
     {
-        match self.indices.get(&who) {
-            Some(index) => self.at(*index),
+        match self.indices.get(who) {
+            Some(index) => self.at(index),
             None => None,
         }
     }

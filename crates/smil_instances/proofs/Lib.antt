@@ -38,5 +38,6 @@ pub mod Targets
 pub mod Times
 pub mod Told
 pub mod Unconcerned
+pub mod Ungiven
 pub mod Untouched
 pub mod Updates

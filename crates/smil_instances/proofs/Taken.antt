@@ -3,6 +3,7 @@ use Rattle.std.proofs.Common.{◌≡◌, refl, sym, ◌∙◌, ap, subst, inl, i
 use Rattle.std.specs.Prelude.{cond, fold, map, get_or, slice_get, ◌&&◌, is_some, count_by, option_to_list, ◌⊎◌, nat_le, ℤ}
 use Rattle.std.specs.List.{cons_option}
 use Rattle.std.proofs.lemmas.List.Elements.{All-cons}
+use Rattle.std.proofs.lemmas.List.{append-nil, get_or-map, length-map}
 use Rattle.smil_model.specs.declared.times.Time.{Time}
 use Rattle.smil_model.specs.declared.diary.Entry.{Entry}
 use Rattle.smil_model.specs.declared.diary.LogEntry.{LogEntry}
@@ -18,6 +19,7 @@ use Rattle.smil_model.specs.diary.Clocks.{parent_start}
 use Rattle.smil_model.specs.interval.Instances.{edge_time}
 use Rattle.smil_model.specs.reach.Reach.{key_of, subject_of}
 use Rattle.smil_instance_rows.specs.declared.item_times.InstanceTime.{InstanceTime}
+use Rattle.smil_instance_rows.specs.declared.cell.Add.{Add}
 use Rattle.smil_instance_rows.specs.declared.cell.Cell.{Cell}
 use Rattle.smil_instances.specs.Laws.{IsUpTo}
 use Rattle.smil_instance_rows.specs.Places.{IsNotAfter}
@@ -31,9 +33,10 @@ use Rattle.smil_diary.proofs.PlaceLists.{past-length}
 use Rattle.smil_instance_rows.specs.Changes.{HasCell, cell_of, with_adds, Fits}
 use Rattle.smil_instances.specs.Updates.{EntriesAreTakenIn, OnlyConcernedChange, concerned_by, remaining}
 use Rattle.smil_instances.proofs.Places.{placed}
-use Rattle.smil_instances.specs.Intake.{shape_of, adds_to, given_item, given_to, given_under, is_concerned_cell, concerned_under, remaining_at, remaining_under, with_remainder, with_remainders, HasItem, HaveItems, AreRowsOf}
+use Rattle.smil_instances.specs.Intake.{shape_of, adds_to, given_item, given_to, given_under, is_concerned_cell, concerned_under, remaining_at, remaining_under, with_remainder, with_remainders, HasItem, HaveItems, AreRowsOf, AreToItems, with_trims}
 use Rattle.smil_instances.proofs.Extents.{same_rows, cell_itself, has_too, item_cell, kept_in, kept_item, kept_under, settled_cell, settled_shape}
-use Rattle.smil_instances.proofs.Updates.{count_first, all_other, all_own, all_shape, each_add, fit, gifts, trims, with_given, and_given, IsReady}
+use Rattle.smil_instances.proofs.Ungiven.{ungiven_stays}
+use Rattle.smil_instances.proofs.Updates.{cells_added, count_added, count_first, each_trim, either_way, all_other, all_own, all_shape, each_add, fit, gifts, trims, with_given, and_given, IsReady}
 use Rattle.smil_instances.proofs.Concerned.{source_here}
 
 -- ---- concerned cells have items
@@ -67,15 +70,17 @@ counted_at [] j d below = absurd (omega (arith, below))
 counted_at (c ∷ cs) zero d below = omega (arith, count_first (is_cell c) c cs, ap {B = ℕ} (λ t. cond t 1 0) (cell_itself c))
 counted_at (c ∷ cs) (suc j) d below = omega (arith, counted_at cs j d (omega (arith, below)), count_first (is_cell (get_or cs j d)) c cs)
 
--- each of the cells that an entry concerns has an item
-pub those_have_items : (nodes : List Node) (birth : Bool) (on key : Option ℕ) (cells : List Cell) → AreThose (is_concerned_cell nodes birth on key) cells → HaveItems nodes cells
-those_have_items nodes birth on key cells those = λ j d below. by (get_or cells j d) (is_concerned_cell nodes birth on key (get_or cells j d)) refl (counted_at cells j d below)
+-- each of some cells that an entry concerns has an item
+have_items : (nodes : List Node) (birth : Bool) (on key : Option ℕ) (cells : List Cell) → ((c : Cell) → is_concerned_cell nodes birth on key c ≡ false → count_by (is_cell c) cells ≡ 0) → HaveItems nodes cells
+have_items nodes birth on key cells only = λ j d below. by (get_or cells j d) (is_concerned_cell nodes birth on key (get_or cells j d)) refl (counted_at cells j d below)
   where
     by : (c : Cell) (t : Bool) → is_concerned_cell nodes birth on key c ≡ t → 1 ≤ count_by (is_cell c) cells → HasItem nodes c
     by c true q some = concerned_item nodes birth on key c q
-    by c false q some =
-        let none : count_by (is_cell c) cells ≡ 0 = those c ∙ ap (λ t. cond t 1 0) q in
-        absurd (omega (arith, some, none))
+    by c false q some = let none = only c q in absurd (omega (arith, some, none))
+
+-- and so has each of all of them
+pub those_have_items : (nodes : List Node) (birth : Bool) (on key : Option ℕ) (cells : List Cell) → AreThose (is_concerned_cell nodes birth on key) cells → HaveItems nodes cells
+those_have_items nodes birth on key cells those = have_items nodes birth on key cells (λ c q. those c ∙ ap (λ t. cond t 1 0) q)
 
 -- ---- places
 
@@ -201,6 +206,10 @@ module _ (nodes : List Node) (log : List LogEntry) (before : List Entry) (y : En
         ∙ ap (λ o. remaining now e.serial (source_of nodes e.serial item) (kept_in past cell ++ option_to_list o)) (sym given_here)
         ∙ sym (trimmed_there (kept_in past cell ++ option_to_list (given_to past y cell)))
 
+    ungiven : IsUpTo y.moment before → is_opening y.step ≡ false → given_to past y cell ≡ None → kept_in now cell ≡ kept_in past cell
+    ungiven timely closed q =
+        kept_now ∙ ungiven_stays past y closed e cell.side item timely (sym given_here ∙ q) ∙ sym kept_past
+
     left : OnlyConcernedChange → IsUpTo y.moment before → test cell ≡ false → kept_in now cell ≡ kept_in past cell
     left law timely q =
         kept_now
@@ -247,11 +256,15 @@ module _ (nodes : List Node) (log : List LogEntry) (before : List Entry) (y : En
         by d true q = inr (those d ∙ ap (λ t. cond t 1 0) q, ready d q)
         by d false q = inl (those d ∙ ap (λ t. cond t 1 0) q)
 
+    -- a cell is trimmed once, or it is given nothing and what is kept for it stays
+    abbrev IsDone : List Cell → Cell → Type 0
+    IsDone trimmed d = (count_by (is_cell d) trimmed ≡ 1) ⊎ ((count_by (is_cell d) trimmed ≡ 0) × ((given_to past y d ≡ None) × (kept_in now d ≡ kept_in past d)))
+
     -- the rows are then those of the diary with the entry
-    pub taken_in : EntriesAreTakenIn → OnlyConcernedChange → IsUpTo y.moment before → with_remainders now (with_adds rows (adds_to past y cells)) cells ≡ settled_rows now
-    taken_in entries only timely =
-        same_rows (with_remainders now (with_adds rows (adds_to past y cells)) cells) (settled_rows now)
-        (all_shape (with_remainder now) (remaining_at now) (trims now) (with_adds rows (adds_to past y cells)) cells ∙ added_shape ∙ rows_of ∙ sym (settled_shape now))
+    done_in : (trimmed : List Cell) → ((d : Cell) → test d ≡ true → IsDone trimmed d) → ((d : Cell) → test d ≡ false → count_by (is_cell d) trimmed ≡ 0) → EntriesAreTakenIn → OnlyConcernedChange → IsUpTo y.moment before → with_remainders now (with_adds rows (adds_to past y cells)) trimmed ≡ settled_rows now
+    done_in trimmed done off entries only timely =
+        same_rows (with_remainders now (with_adds rows (adds_to past y cells)) trimmed) (settled_rows now)
+        (all_shape (with_remainder now) (remaining_at now) (trims now) (with_adds rows (adds_to past y cells)) trimmed ∙ added_shape ∙ rows_of ∙ sym (settled_shape now))
         (λ d. by d (test d) refl)
       where
         added_is : (with_adds rows (adds_to past y cells)) ≡ fold (with_given (given_to past y)) rows cells
@@ -263,26 +276,65 @@ module _ (nodes : List Node) (log : List LogEntry) (before : List Entry) (y : En
         old_cell : (d : Cell) → cell_of rows d ≡ kept_in past d
         old_cell d = ap (λ rs. cell_of rs d) are ∙ settled_cell past d
 
-        own : (d : Cell) → test d ≡ true → count_by (is_cell d) cells ≡ 1 → cell_of (with_remainders now (with_adds rows (adds_to past y cells)) cells) d ≡ cell_of (settled_rows now) d
-        own d q once =
+        own : (d : Cell) → test d ≡ true → count_by (is_cell d) cells ≡ 1 → IsDone trimmed d → cell_of (with_remainders now (with_adds rows (adds_to past y cells)) trimmed) d ≡ cell_of (settled_rows now) d
+        own d q once (inl first) =
             let is = item_of nodes d (concerned_item nodes (is_opening y.step) (subject_of log y.step) (key_of log y.step) d q) in
             let has : HasCell rows d = item_cell nodes rows d is.element is.item rows_of is.here is.at in
-            all_own (with_remainder now) (remaining_at now) (trims now) (with_adds rows (adds_to past y cells)) d cells (has_too rows (with_adds rows (adds_to past y cells)) d (sym added_shape) has) once
+            all_own (with_remainder now) (remaining_at now) (trims now) (with_adds rows (adds_to past y cells)) d trimmed (has_too rows (with_adds rows (adds_to past y cells)) d (sym added_shape) has) first
             ∙ ap (λ rs. remaining_at now d (cell_of rs d)) added_is
             ∙ ap (remaining_at now d) (all_own (with_given (given_to past y)) (and_given (given_to past y)) (gifts (given_to past y)) rows d cells has once)
             ∙ ap (λ ks. remaining_at now d (ks ++ option_to_list (given_to past y d))) (old_cell d)
             ∙ sym (taken d is.element is.item is.here is.at entries timely)
             ∙ sym (settled_cell now d)
+        own d q once (inr p) =
+            let is = item_of nodes d (concerned_item nodes (is_opening y.step) (subject_of log y.step) (key_of log y.step) d q) in
+            let has : HasCell rows d = item_cell nodes rows d is.element is.item rows_of is.here is.at in
+            all_other (with_remainder now) (remaining_at now) (trims now) (with_adds rows (adds_to past y cells)) d trimmed p.0
+            ∙ ap (λ rs. cell_of rs d) added_is
+            ∙ all_own (with_given (given_to past y)) (and_given (given_to past y)) (gifts (given_to past y)) rows d cells has once
+            ∙ ap (λ o. cell_of rows d ++ option_to_list o) (p.1).0
+            ∙ append-nil (cell_of rows d)
+            ∙ old_cell d
+            ∙ sym (p.1).1
+            ∙ sym (settled_cell now d)
 
-        other : (d : Cell) → test d ≡ false → count_by (is_cell d) cells ≡ 0 → cell_of (with_remainders now (with_adds rows (adds_to past y cells)) cells) d ≡ cell_of (settled_rows now) d
+        other : (d : Cell) → test d ≡ false → count_by (is_cell d) cells ≡ 0 → cell_of (with_remainders now (with_adds rows (adds_to past y cells)) trimmed) d ≡ cell_of (settled_rows now) d
         other d q none =
-            all_other (with_remainder now) (remaining_at now) (trims now) (with_adds rows (adds_to past y cells)) d cells none
+            all_other (with_remainder now) (remaining_at now) (trims now) (with_adds rows (adds_to past y cells)) d trimmed (off d q)
             ∙ ap (λ rs. cell_of rs d) added_is
             ∙ all_other (with_given (given_to past y)) (and_given (given_to past y)) (gifts (given_to past y)) rows d cells none
             ∙ old_cell d
             ∙ sym (unconcerned_left only timely d q)
             ∙ sym (settled_cell now d)
 
-        by : (d : Cell) (t : Bool) → test d ≡ t → cell_of (with_remainders now (with_adds rows (adds_to past y cells)) cells) d ≡ cell_of (settled_rows now) d
-        by d true q = own d q (those d ∙ ap (λ t. cond t 1 0) q)
+        by : (d : Cell) (t : Bool) → test d ≡ t → cell_of (with_remainders now (with_adds rows (adds_to past y cells)) trimmed) d ≡ cell_of (settled_rows now) d
+        by d true q = own d q (those d ∙ ap (λ t. cond t 1 0) q) (done d q)
         by d false q = other d q (those d ∙ ap (λ t. cond t 1 0) q)
+
+    -- where all the cells are trimmed
+    pub taken_in : EntriesAreTakenIn → OnlyConcernedChange → IsUpTo y.moment before → with_remainders now (with_adds rows (adds_to past y cells)) cells ≡ settled_rows now
+    taken_in =
+        done_in cells (λ d q. inl (those d ∙ ap (λ t. cond t 1 0) q)) (λ d q. those d ∙ ap (λ t. cond t 1 0) q)
+
+    -- only concerned cells are added to
+    added_off : (d : Cell) → test d ≡ false → count_by (is_cell d) (cells_added (adds_to past y cells)) ≡ 0
+    added_off d q = count_added (given_to past y) d cells ∙ ap (λ n. cond (is_some (given_to past y d)) n 0) (those d ∙ ap (λ t. cond t 1 0) q) ∙ either_way (is_some (given_to past y d)) 0
+
+    -- each of the adds is to an item
+    pub adds_to_items : AreToItems nodes (adds_to past y cells)
+    adds_to_items = λ i d below.
+        subst (HasItem nodes) (get_or-map (λ (a : Add). a.cell) (adds_to past y cells) i d d.cell below)
+        (have_items nodes (is_opening y.step) (subject_of log y.step) (key_of log y.step) (cells_added (adds_to past y cells)) added_off i d.cell
+        (subst (λ n. i < n) (sym (length-map (adds_to past y cells) (λ (a : Add). a.cell))) below))
+
+    -- where the entry is no birth, and only the cells that are added to are trimmed
+    pub taken_in_added : is_opening y.step ≡ false → EntriesAreTakenIn → OnlyConcernedChange → IsUpTo y.moment before → with_trims now (with_adds rows (adds_to past y cells)) (adds_to past y cells) ≡ settled_rows now
+    taken_in_added closed entries only timely =
+        each_trim now (with_adds rows (adds_to past y cells)) (adds_to past y cells)
+        ∙ done_in (cells_added (adds_to past y cells)) (λ d q. by d q (given_to past y d) refl) added_off entries only timely
+      where
+        by : (d : Cell) → test d ≡ true → (o : Option InstanceTime) → given_to past y d ≡ o → IsDone (cells_added (adds_to past y cells)) d
+        by d q (Some kept) g = inl (count_added (given_to past y) d cells ∙ ap (λ o. cond (is_some o) (count_by (is_cell d) cells) 0) g ∙ those d ∙ ap (λ t. cond t 1 0) q)
+        by d q None g =
+            let is = item_of nodes d (concerned_item nodes (is_opening y.step) (subject_of log y.step) (key_of log y.step) d q) in
+            inr (count_added (given_to past y) d cells ∙ ap (λ o. cond (is_some o) (count_by (is_cell d) cells) 0) g, (g, ungiven d is.element is.item is.here is.at timely closed g))

@@ -74,7 +74,7 @@ lone_edge log _ x _ on = refl
 -- ---- a step on an element
 
 -- a step on an element is no press
-no_press : (log : List LogEntry) (step : Step) (x key : ℕ) → subject_of log step ≡ Some x → is_press log key step ≡ false
+pub no_press : (log : List LogEntry) (step : Step) (x key : ℕ) → subject_of log step ≡ Some x → is_press log key step ≡ false
 no_press log (Logged place) x key q = by_entry (slice_get log place) q
   where
     by_what : (w : Happening) → subject w ≡ Some x → is_option key (pressed w) ≡ false

@@ -46,6 +46,11 @@ same_cut f xs k' k (inr p) =
     let none : from_place k (placed f 0 xs) ≡ [] = beyond f k 0 xs (omega (arith, p.1)) in
     ap (from_place k') none ∙ sym none
 
+-- what does not occur is not heard
+pub unheard : (h : History) (y : Entry) (e : Node) (side : Edge) (item : Item) (offset : ℤ) (occurs : History → Step → Bool) → occurs (up_to h h.diary) y.step ≡ false → heard_time h e side item offset occurs h.diary y ≡ None
+unheard h y e side item offset occurs not_now =
+    ap (λ b. cond (b && hears (up_to h h.diary) e side item) (Some (within_horizon (outer h e.serial y.moment +ℤ offset))) None) not_now
+
 pub event_other : (log : List LogEntry) (t : ℕ) (name : List ℕ) (step : Step) → is_option t (subject_of log step) ≡ false → is_event log t name step ≡ false
 event_other log t name (Logged place) q = by_entry (slice_get log place) q
   where
@@ -70,19 +75,16 @@ repeat_other log past t n (Repeated who start) q = let r : who == t ≡ false = 
 repeat_other log past t n _ q = refl
 
 module _ (h : History) (y : Entry) where
-  edges_stay : (e x : ℕ) (offset : ℤ) (edge : Edge) → concerns_edges h.nodes y.step e x edge ≡ false → next_edges h y e x offset edge (edge_instances h e x offset edge) ≡ edge_instances h e x offset edge
-  edges_stay e x offset edge q =
-      let a = or_parts (is_edge edge x y.step) (is_reset_by h.nodes e y.step || is_reset_by h.nodes x y.step) q in
-      let b = or_parts (is_reset_by h.nodes e y.step) (is_reset_by h.nodes x y.step) a.1 in
-      ap (λ o. from_place (min (birth (with_entry h y) e) (birth (with_entry h y) x)) (with_time (length h.diary) o (edge_instances h e x offset edge)))
-      (other_edge h e x offset y.moment edge y.step a.0)
+  -- where it gives no time and no birth
+  pub edges_left : (e x : ℕ) (offset : ℤ) (edge : Edge) → edge_time h e x offset y.moment edge y.step ≡ None → is_reset_by h.nodes e y.step ≡ false → is_reset_by h.nodes x y.step ≡ false → next_edges h y e x offset edge (edge_instances h e x offset edge) ≡ edge_instances h e x offset edge
+  edges_left e x offset edge none own other =
+      ap (λ o. from_place (min (birth (with_entry h y) e) (birth (with_entry h y) x)) (with_time (length h.diary) o (edge_instances h e x offset edge))) none
       ∙ same_cut (λ (z : Entry). edge_time h e x offset z.moment edge z.step) h.diary (min (birth (with_entry h y) e) (birth (with_entry h y) x)) (min (birth h e) (birth h x))
-      (min-stays (length h.diary) (birth (with_entry h y) e) (birth h e) (birth (with_entry h y) x) (birth h x) (birth-stays h y e b.0) (birth-stays h y x b.1))
+      (min-stays (length h.diary) (birth (with_entry h y) e) (birth h e) (birth (with_entry h y) x) (birth h x) (birth-stays h y e own) (birth-stays h y x other))
 
-  heard_stays : (e : Node) (side : Edge) (item : Item) (offset : ℤ) (occurs : History → Step → Bool) → occurs (up_to h h.diary) y.step ≡ false → is_reset_by h.nodes e.serial y.step ≡ false → next_heard h y e side item offset occurs (heard_instances h e side item offset occurs) ≡ heard_instances h e side item offset occurs
-  heard_stays e side item offset occurs not_now q =
-      ap (λ b. from_place (birth (with_entry h y) e.serial) (with_time (length h.diary) (cond (b && hears (up_to h h.diary) e side item) (Some (within_horizon (outer h e.serial y.moment +ℤ offset))) None) (heard_instances h e side item offset occurs)))
-      not_now
+  pub heard_left : (e : Node) (side : Edge) (item : Item) (offset : ℤ) (occurs : History → Step → Bool) → heard_time h e side item offset occurs h.diary y ≡ None → is_reset_by h.nodes e.serial y.step ≡ false → next_heard h y e side item offset occurs (heard_instances h e side item offset occurs) ≡ heard_instances h e side item offset occurs
+  heard_left e side item offset occurs none q =
+      ap (λ o. from_place (birth (with_entry h y) e.serial) (with_time (length h.diary) o (heard_instances h e side item offset occurs))) none
       ∙ same_cut (λ (p : List Entry × Entry). heard_time h e side item offset occurs p.0 p.1) (with_past [] h.diary) (birth (with_entry h y) e.serial) (birth h e.serial)
       (moved (past-length [] h.diary) (birth-stays h y e.serial q))
     where
@@ -90,13 +92,23 @@ module _ (h : History) (y : Entry) where
       moved same (inl p) = inl (p.0, omega (arith, p.1, same))
       moved same (inr p) = inr (omega (arith, p.0, same), omega (arith, p.1, same))
 
+  pub start_left : (o : Option Node) (offset : ℤ) (kept : List InstanceTime) → is_birth_under o y.step ≡ false → next_start h y o offset kept ≡ kept
+  start_left None offset kept r = refl
+  start_left (Some p) offset kept r = rw r
+
+  edges_stay : (e x : ℕ) (offset : ℤ) (edge : Edge) → concerns_edges h.nodes y.step e x edge ≡ false → next_edges h y e x offset edge (edge_instances h e x offset edge) ≡ edge_instances h e x offset edge
+  edges_stay e x offset edge q =
+      let a = or_parts (is_edge edge x y.step) (is_reset_by h.nodes e y.step || is_reset_by h.nodes x y.step) q in
+      let b = or_parts (is_reset_by h.nodes e y.step) (is_reset_by h.nodes x y.step) a.1 in
+      edges_left e x offset edge (other_edge h e x offset y.moment edge y.step a.0) b.0 b.1
+
+  heard_stays : (e : Node) (side : Edge) (item : Item) (offset : ℤ) (occurs : History → Step → Bool) → occurs (up_to h h.diary) y.step ≡ false → is_reset_by h.nodes e.serial y.step ≡ false → next_heard h y e side item offset occurs (heard_instances h e side item offset occurs) ≡ heard_instances h e side item offset occurs
+  heard_stays e side item offset occurs not_now q =
+      heard_left e side item offset occurs (unheard h y e side item offset occurs not_now) q
+
   offset_stays : (e : ℕ) (offset : ℤ) (o : Option Node) → concerns_offset h.nodes y.step e o ≡ false → next_offset h y e offset o (offset_instances h e offset o) ≡ offset_instances h e offset o
   offset_stays e offset (Some before) q = edges_stay e before.serial offset End q
-  offset_stays e offset None q = under (time_parent h.nodes e) (offset_instances h e offset None) q
-    where
-      under : (o : Option Node) (kept : List InstanceTime) → is_birth_under o y.step ≡ false → next_start h y o offset kept ≡ kept
-      under None kept r = refl
-      under (Some p) kept r = rw r
+  offset_stays e offset None q = start_left (time_parent h.nodes e) offset (offset_instances h e offset None) q
 
   item_stays : (e : Node) (side : Edge) (item : Item) → may_change h.nodes h.log y.step e.serial item ≡ false → next_of h y e side item (instances_of h e side item) ≡ instances_of h e side item
   item_stays e side (Offset offset) q = offset_stays e.serial offset (previous_in_seq h.nodes e.serial) q

@@ -1,5 +1,5 @@
 -- What an entry gives to an item.
-use Rattle.std.specs.Prelude.{ℕ, ℤ, List, length, Option, Some, None, ◌+ℤ◌, pos, if◌then◌else◌, ◌≤ℤ◌, ◌&&◌}
+use Rattle.std.specs.Prelude.{ℕ, ℤ, List, length, Option, Some, None, ◌+ℤ◌, pos, if◌then◌else◌, ◌≤ℤ◌, ◌&&◌, Bool, false, true, is_some, not}
 use Rattle.smil_model.specs.declared.times.Time.{Time}
 use Rattle.smil_model.specs.declared.diary.Entry.{Entry}
 use Rattle.smil_model.specs.declared.document.Node.{Node}
@@ -11,6 +11,9 @@ use Rattle.smil_model.specs.document.Document.{element_named, previous_in_seq, t
 use Rattle.smil_model.specs.diary.Diary.{History, gives_birth, last_moment}
 use Rattle.smil_model.specs.interval.Instances.{edge_time, hears}
 use Rattle.smil_instance_rows.specs.declared.item_times.InstanceTime.{InstanceTime}
+use Rattle.smil_model.specs.reach.Reach.{is_option}
+use Rattle.smil_instances.specs.declared.source.Source.{Source}
+use Rattle.smil_instances.specs.declared.source.Source.TheVariants as source
 use Rattle.smil_instances.specs.SettledTimes.{heard_time, occurs_event, occurs_repeat, occurs_key}
 use Rattle.smil_model.specs.Times.{within_horizon}
 use Rattle.smil_model.specs.diary.Clocks.{iteration_start_after, outer}
@@ -83,6 +86,14 @@ offset_of (Event who name offset) = offset
 offset_of (Repeat who n offset) = offset
 offset_of (Key key offset) = offset
 offset_of Indefinite = pos 0
+
+-- whether an entry on this element, or on none, may give something to an item with this source
+abbrev pub may_give : Option ℕ → Source → Bool
+may_give on source.Start = true
+may_give on (source.Syncbase x edge) = is_option x on
+may_give on (source.Eventbase x) = is_option x on
+may_give on (source.Key key) = not (is_some on)
+may_give on source.Nothing = false
 
 -- what an entry gives to an item that means the element `of` or waits for a key:
 -- a time where it is what the item waits for and e hears it

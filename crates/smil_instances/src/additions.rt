@@ -1,8 +1,10 @@
 //! What the last entry of a diary gives to items.
 
-ghost use Rattle.std.specs.Prelude.{◌≡◌, List, [], ◌∷◌, ◌++◌, IfOk};
+ghost use Rattle.std.specs.Prelude.{◌≡◌, List, [], ◌∷◌, ◌++◌, OnOk};
 ghost use Rattle.smil_model.specs.declared.diary.Entry.{Entry as AnyEntry};
 ghost use Rattle.smil_model.specs.declared.document.Edge.TheVariants as edge;
+ghost use Rattle.smil_model.specs.reach.Reach.{subject_of};
+ghost use Rattle.smil_instances.specs.Contribution.{may_give};
 ghost use Rattle.smil_instances.specs.Entry.{HasArrived, HasDependents};
 ghost use Rattle.smil_instances.specs.Intake.{history_with, default_of, IsCellOf, IsUnstated, given_to as gift, adds_to, AreRowsOf};
 
@@ -10,36 +12,42 @@ use super::arrival::Arrival;
 use super::contribution::given;
 use super::items::{CellItem, ListItem};
 use super::source::Source;
+use super::steps::subject;
 use smil_instance_rows::{Add, Cell, InstanceTime, Rows};
 use smil_model::{Edge, Item};
-use std::alloc::{AllocError, Global};
+use std::alloc::AllocError;
 
-/// What the last entry gives to the items of these cells, in their order, unless memory runs out.
+/// Puts what the last entry gives to the items of these cells into a list, in their order, in the
+/// place of what is there, unless memory runs out.
 pub(crate) fn adds_of(
-    alloc: Global,
     rows: &Rows,
     cells: &[Cell],
     arrival: &Arrival<'_>,
-) -> Result<Vec<Add>, AllocError>
+    adds: &mut Vec<Add>,
+) -> Result<(), AllocError>
     requires hand { HasArrived arrival.now }
     requires dependents { HasDependents arrival.now }
     requires rows { AreRowsOf arrival.now.history.tree.now.nodes rows.now }
-    ensures { IfOk result (λ adds. (before : List AnyEntry) (y : AnyEntry)
-        → arrival.now.history.book.now ≡ before ++ y ∷ [] → adds.items
+    ensures { OnOk result ((before : List AnyEntry) (y : AnyEntry)
+        → arrival.now.history.book.now ≡ before ++ y ∷ [] → adds.new.items
         ≡ adds_to (history_with arrival.now.history before) y cells.now) }
 {
-    let mut adds = Vec::new(alloc);
+    adds.clear();
+    let on = subject(arrival.history.log, arrival.last_entry().step);
     for cell in cells {
-        if let Some(kept) = given_to(rows, *cell, arrival) {
+        if let Some(kept) = given_to(rows, *cell, on, arrival) {
             adds.push(Add { cell: *cell, kept })?;
         }
     }
-    Ok(adds)
+    Ok(())
 }
 
-// What the last entry gives to a cell's item.
-fn given_to(rows: &Rows, cell: Cell, arrival: &Arrival<'_>) -> Option<InstanceTime>
+// What the last entry, which is on this element or on none, gives to a cell's item.
+fn given_to(rows: &Rows, cell: Cell, on: Option<u32>, arrival: &Arrival<'_>) -> Option<InstanceTime>
     requires hand { HasArrived arrival.now }
+    requires on { (before : List AnyEntry) (y : AnyEntry)
+        → arrival.now.history.book.now ≡ before ++ y ∷ []
+        → on ≡ subject_of arrival.now.history.log.now y.step }
     requires dependents { HasDependents arrival.now }
     requires rows { AreRowsOf arrival.now.history.tree.now.nodes rows.now }
     ensures { (before : List AnyEntry) (y : AnyEntry)
@@ -47,9 +55,24 @@ fn given_to(rows: &Rows, cell: Cell, arrival: &Arrival<'_>) -> Option<InstanceTi
         → result ≡ gift (history_with arrival.now.history before) y cell }
 {
     arrival.history.tree.valid();
-    let who = rows.serial_at(cell.row)?;
     let source = arrival.dependents.source(cell);
+    if !may_give(source, on) {
+        return None;
+    }
+    let who = rows.serial_at(cell.row)?;
     given_item(arrival, CellItem { cell, who, source })
+}
+
+// Whether an entry on this element, or on none, may give something to an item with this source.
+fn may_give(source: Source, on: Option<u32>) -> bool
+    ensures { result ≡ may_give on source }
+{
+    match source {
+        Source::Start => true,
+        Source::Syncbase { of, .. } | Source::Eventbase { of } => on == Some(of),
+        Source::Key { .. } => on.is_none(),
+        Source::Nothing => false,
+    }
 }
 
 // What the last entry gives to the item of a cell.

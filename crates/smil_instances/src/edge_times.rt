@@ -1,9 +1,10 @@
 //! The time that an entry gives to an item for the begins or the ends of an element.
 
-ghost use Rattle.std.specs.Prelude.{◌≡◌};
+ghost use Rattle.std.specs.Prelude.{◌≡◌, ◌+ℤ◌};
 ghost use Rattle.smil_model.specs.diary.Diary.{History};
 ghost use Rattle.smil_model.specs.interval.Instances;
-ghost use Rattle.smil_model.specs.Times.{IsMoment};
+ghost use Rattle.smil_model.specs.diary.Clocks.{between};
+ghost use Rattle.smil_model.specs.Times.{IsMoment, within_horizon};
 ghost use Rattle.smil_instances.specs.Contribution.{AreClocksAt};
 
 use super::carried::carried;
@@ -20,19 +21,33 @@ pub fn edge_time(clocks: &Clocks, entry: Entry, who: u32, sync: Syncbase) -> Opt
         → result ≡ Instances.edge_time h who sync.of sync.offset entry.moment sync.edge entry.step }
 {
     let Syncbase { of, edge, offset } = sync;
-    let own = clocks.outer(who, entry.moment);
-    let other = clocks.outer(of, entry.moment);
     match edge {
         Edge::Begin => match entry.step {
             Step::Began { who: on, begin } if on == of => {
-                Some(carried(begin, other, own, offset))
+                Some(time_of(clocks, entry.moment, who, sync, begin))
             }
             _ => None,
         },
         Edge::End => match entry.step {
-            Step::Ended { who: on, end } if on == of => Some(carried(end, other, own, offset)),
-            Step::Cut { who: on } if on == of => Some(moved(own, offset)),
+            Step::Ended { who: on, end } if on == of => {
+                Some(time_of(clocks, entry.moment, who, sync, end))
+            }
+            Step::Cut { who: on } if on == of => {
+                Some(moved(clocks.outer(who, entry.moment), offset))
+            }
             _ => None,
         },
     }
+}
+
+// The time that such an item gets from a begin or an end at a value, in milliseconds on the clock of
+// the time parent of the element that it waits for.
+fn time_of(clocks: &Clocks, moment: i64, who: u32, sync: Syncbase, value: i64) -> Time
+    requires { IsMoment moment }
+    ensures { (h : History) → AreClocksAt h clocks.now moment
+        → result ≡ within_horizon (between h sync.of who value moment +ℤ sync.offset) }
+{
+    let own = clocks.outer(who, moment);
+    let other = clocks.outer(sync.of, moment);
+    carried(value, other, own, sync.offset)
 }

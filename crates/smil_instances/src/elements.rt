@@ -1,13 +1,14 @@
 //! The elements of a document, in document order.
 
 ghost use Rattle.std.specs.Prelude.{◌≡◌, ℕ, if◌then◌else◌, Some, option_and_then, IfOk, OnOk, nat_eq, map};
-ghost use Rattle.std.specs.HashMap.{get};
+ghost use Rattle.std.specs.FinMap.{get};
+ghost use Rattle.std.specs.HashMap.{get as last_of};
 ghost use Rattle.smil_model.specs.declared.document.Node.{Node as AnyNode};
 ghost use Rattle.smil_model.specs.document.Document.{elements, previous_child, time_parent, serials, serial_of};
 ghost use Rattle.smil_model.specs.reach.Reach.{is_option};
 ghost use Rattle.smil_instances.specs.Spread.{IsIndex};
 
-use smil_model::first_places;
+use smil_model::{SerialTable, first_places};
 use smil_tree::Tree;
 use std::alloc::{AllocError, Global};
 use std::collections::HashMap;
@@ -23,13 +24,9 @@ pub fn elements(alloc: Global, tree: &Tree) -> Result<Vec<u32>, AllocError>
 }
 
 /// The places of the elements in the list, by their serials.
-pub fn places_of(
-    alloc: Global,
-    tree: &Tree,
-    whos: &[u32],
-) -> Result<HashMap<u32, usize>, AllocError>
+pub fn places_of(alloc: Global, tree: &Tree, whos: &[u32]) -> Result<SerialTable, AllocError>
     requires { whos.now ≡ serials (elements tree.now.nodes) }
-    ensures { IfOk result (λ places. IsIndex whos.now (get nat_eq places)) }
+    ensures { IfOk result (λ places. IsIndex whos.now (get places)) }
 {
     tree.valid();
     first_places(alloc, whos)
@@ -65,10 +62,10 @@ fn put_last(
     parent: Option<u32>,
     who: u32,
 ) -> Result<Option<u32>, AllocError>
-    ensures before { IfOk result (λ before. before ≡ option_and_then (get nat_eq last.old) parent) }
+    ensures before { IfOk result (λ before. before ≡ option_and_then (last_of nat_eq last.old) parent) }
     ensures last { OnOk result ((p : ℕ)
-        → get nat_eq last.new p
-        ≡ (if is_option p parent then Some who else get nat_eq last.old p)) }
+        → last_of nat_eq last.new p
+        ≡ (if is_option p parent then Some who else last_of nat_eq last.old p)) }
 {
     match parent {
         Some(parent) => Ok(last.insert(parent, who)?),

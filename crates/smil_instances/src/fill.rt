@@ -1,7 +1,7 @@
 //! Each cell is noted with the elements whose entries can concern it.
 
-ghost use Rattle.std.specs.Prelude.{◌≡◌, ℕ, ◌<◌, ◌&&◌, ◌||◌, not, true, length, nat_eq, slice_get, OnOk};
-ghost use Rattle.std.specs.HashMap.{get};
+ghost use Rattle.std.specs.Prelude.{◌≡◌, ℕ, ◌<◌, ◌&&◌, ◌||◌, not, true, length, slice_get, OnOk};
+ghost use Rattle.std.specs.FinMap.{get};
 ghost use Rattle.smil_model.specs.document.Document.{elements, has_serial, serials};
 ghost use Rattle.smil_model.specs.reach.Reach.{is_option};
 ghost use Rattle.smil_instances.specs.Sources.{base_of, is_reset_with};
@@ -11,20 +11,19 @@ use super::dependents_row::DependentsRow;
 use super::source::Source;
 use super::sources::parent_of;
 use smil_instance_rows::Cell;
-use smil_model::Edge;
+use smil_model::{Edge, SerialTable};
 use smil_tree::Tree;
 use std::alloc::AllocError;
-use std::collections::HashMap;
 
 /// Notes each cell of the document in the rows.
 pub fn fill(
     rows: &mut [DependentsRow],
     tree: &Tree,
-    places: &HashMap<u32, usize>,
+    places: &SerialTable,
     whos: &[u32],
 ) -> Result<(), AllocError>
     requires whos { whos.now ≡ serials (elements tree.now.nodes) }
-    requires places { IsIndex (serials (elements tree.now.nodes)) (get nat_eq places.now) }
+    requires places { IsIndex (serials (elements tree.now.nodes)) (get places.now) }
     requires rows { length rows.old ≡ length (elements tree.now.nodes) }
     requires sources { AreSourcesOf tree.now.nodes rows.old }
     ensures { OnOk result (Takes tree.now.nodes
@@ -42,7 +41,7 @@ pub fn fill(
 #[derive(Clone, Copy)]
 struct Index<'a> {
     tree: &'a Tree,
-    places: &'a HashMap<u32, usize>,
+    places: &'a SerialTable,
 }
 
 impl Index<'_> {
@@ -56,7 +55,7 @@ impl Index<'_> {
     ) -> Result<(), AllocError>
         requires who { has_serial who (slice_get (elements self.now.tree.now.nodes) row) ≡ true }
         requires places { IsIndex (serials (elements self.now.tree.now.nodes))
-            (get nat_eq self.now.places.now) }
+            (get self.now.places.now) }
         requires rows { length rows.old ≡ length (elements self.now.tree.now.nodes) }
         requires sources { AreSourcesOf self.now.tree.now.nodes rows.old }
         ensures { OnOk result (Takes self.now.tree.now.nodes
@@ -73,7 +72,7 @@ impl Index<'_> {
         requires who { has_serial who (slice_get (elements self.now.tree.now.nodes) cell.row)
             ≡ true }
         requires places { IsIndex (serials (elements self.now.tree.now.nodes))
-            (get nat_eq self.now.places.now) }
+            (get self.now.places.now) }
         requires rows { length rows.old ≡ length (elements self.now.tree.now.nodes) }
         requires sources { AreSourcesOf self.now.tree.now.nodes rows.old }
         ensures { OnOk result (Takes self.now.tree.now.nodes
@@ -97,14 +96,14 @@ impl Index<'_> {
         cell: Cell,
     ) -> Result<(), AllocError>
         requires places { IsIndex (serials (elements self.now.tree.now.nodes))
-            (get nat_eq self.now.places.now) }
+            (get self.now.places.now) }
         requires rows { length rows.old ≡ length (elements self.now.tree.now.nodes) }
         ensures { OnOk result (Takes self.now.tree.now.nodes (goes_to who is_birth cell) rows.old
             rows.new) }
     {
         let Some(who) = who else { return Ok(()) };
-        match self.places.get(&who) {
-            Some(row) => rows[*row].push(is_birth, cell),
+        match self.places.get(who) {
+            Some(row) => rows[row].push(is_birth, cell),
             None => Ok(()),
         }
     }

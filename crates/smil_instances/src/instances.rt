@@ -23,7 +23,7 @@ use super::intake::take_in;
 use super::laws::rows_tell_instances;
 use smil_diary::Book;
 use smil_graph::Graph;
-use smil_instance_rows::Rows;
+use smil_instance_rows::{Add, Rows};
 use smil_model::{Duplicate, Edge, Entry, Log, Time};
 use smil_stretch::Clocks;
 use smil_tree::Tree;
@@ -35,6 +35,8 @@ use std::marker::Model;
 pub struct Instances {
     rows: Rows,
     dependents: Dependents,
+    /// Room for what an entry adds.
+    adds: Vec<Add>,
     alloc: Global,
 }
 
@@ -44,6 +46,7 @@ impl Drop for Instances {
         let Instances {
             rows: _rows,
             dependents: _dependents,
+            adds: _adds,
             alloc: _alloc,
         } = self;
     }
@@ -62,6 +65,7 @@ impl Duplicate for Instances {
         Ok(Instances {
             rows: self.rows.copy()?,
             dependents: self.dependents.copy()?,
+            adds: Vec::new(self.alloc),
             alloc: self.alloc,
         })
     }
@@ -80,6 +84,7 @@ impl Instances {
         Ok(Instances {
             rows: idle_rows(alloc, tree, &dependents)?,
             dependents,
+            adds: Vec::new(alloc),
             alloc,
         })
     }
@@ -105,7 +110,7 @@ impl Instances {
             dependents: &self.dependents,
             clocks,
         };
-        take_in(self.alloc, &mut self.rows, &arrival)
+        take_in(&mut self.rows, &mut self.adds, &arrival)
     }
 
     /// Makes these the instance times of the book, whatever they were: the same as noting its
@@ -132,6 +137,7 @@ impl Instances {
         let DocumentHistory { tree, log, book } = *history;
         let dependents = &self.dependents;
         let mut rows = idle_rows(self.alloc, tree, dependents)?;
+        let mut adds = Vec::new(self.alloc);
         let mut front = Book::new(self.alloc);
         let mut clocks = Clocks::of(self.alloc, tree, &front)?;
         for entry in book.entries() {
@@ -145,7 +151,7 @@ impl Instances {
                 dependents,
                 clocks: &clocks,
             };
-            take_in(self.alloc, &mut rows, &arrival)?;
+            take_in(&mut rows, &mut adds, &arrival)?;
             clocks.follow(*entry);
         }
         Ok(rows)

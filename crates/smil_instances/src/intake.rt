@@ -13,17 +13,18 @@ use super::additions::adds_of;
 use super::arrival::Arrival;
 use super::dependents::Dependents;
 use super::laws::{bases_are_elements, entries_are_taken_in, only_concerned_items_change};
-use super::remainder::trim_each;
+use super::remainder::{trim_added, trim_each};
 use super::steps::{key, subject};
-use smil_instance_rows::{Cell, Rows, add_each};
+use smil_instance_rows::{Add, Cell, Rows, add_each};
 use smil_model::Step;
-use std::alloc::{AllocError, Global};
+use std::alloc::AllocError;
 
-/// Takes in the last entry of the book: of the items that it concerns adds what it gives, and then
-/// takes out what is no longer kept. Where memory runs out the rows are as before.
+/// Takes in the last entry of the book: adds what it gives to the items that it concerns, and then
+/// takes out what is no longer kept. Where memory runs out the rows are as before. `adds` is room
+/// for what it gives.
 pub(crate) fn take_in(
-    alloc: Global,
     rows: &mut Rows,
+    adds: &mut Vec<Add>,
     arrival: &Arrival<'_>,
 ) -> Result<(), AllocError>
     requires hand { HasArrived arrival.now }
@@ -40,9 +41,14 @@ pub(crate) fn take_in(
     only_concerned_items_change();
     let entry = arrival.last_entry();
     let cells = concerned(rows, arrival, entry.step);
-    let adds = adds_of(alloc, rows, cells, arrival)?;
+    adds_of(rows, cells, arrival, adds)?;
     add_each(rows, adds.as_slice())?;
-    trim_each(rows, cells, arrival);
+    // Only a birth makes that less is kept for an item to which nothing is added.
+    if is_birth(entry.step) {
+        trim_each(rows, cells, arrival);
+    } else {
+        trim_added(rows, adds.as_slice(), arrival);
+    }
     Ok(())
 }
 

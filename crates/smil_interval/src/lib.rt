@@ -9,12 +9,14 @@ pub mod end;
 pub mod laws;
 pub mod rising;
 pub mod search;
+mod steps;
 
 use end::interval_at;
 pub use search::{first_interval, next_interval};
 pub use smil_model::{EndList, Facts};
-use smil_model::{Interval, Steps, Time};
+use smil_model::{Interval, Time};
 use std::sync::ledger::Ledger;
+pub use steps::Steps;
 
 /// The interval of an element, in milliseconds on its time parent's clock, and one more evaluation
 /// counted. It is that of the present play where the element is active, and the first or next one

@@ -5,3 +5,4 @@ pub mod Words
 pub mod Encoded
 pub mod Pieces
 pub mod Trims
+pub mod Bare

@@ -1,8 +1,8 @@
 //! Cutting and comparing texts.
 
-ghost use Rattle.smil_model.specs.document.Words.{is_key as is_key_byte};
-ghost use Rattle.std.specs.Prelude.{◌≡◌, ◌<◌, drop, ◌==◌, length, position, option_map, IfSome, IfOk, bytes_eq, ◌≤◌};
-ghost use Rattle.std.specs.List.{suffix_len};
+ghost use Rattle.smil_model.specs.document.Words.{backslash, is_key as is_key_byte};
+ghost use Rattle.std.specs.Prelude.{◌≡◌, ◌<◌, not, drop, ◌==◌, length, position, option_map, IfSome, IfOk, bytes_eq, ◌≤◌};
+ghost use Rattle.std.specs.List.{list_all, suffix_len};
 ghost use Rattle.smil_grammar.specs.Texts.{cut_at, is_white as is_white_byte, trim_front as front_trimmed, trim as trimmed, behind as behind_byte};
 ghost use Rattle.smil_grammar.specs.Words.{unescaped as unescaped_bytes};
 
@@ -35,10 +35,21 @@ pub fn is_key(byte: u8) -> bool
     (33..=126).contains(&byte) && byte != b'"' && byte != b';' && byte != b'\\'
 }
 
+// Whether no backslash stands in a text.
+fn is_bare(text: &[u8]) -> bool
+    ensures { result ≡ list_all (λ b. not (b == backslash)) text.now }
+{
+    text.iter().all(|byte| *byte != b'\\')
+}
+
 /// The bytes of a text without its backslashes.
+#[tactic(auto, using(crate::proofs::Bare::bare_stays))]
 pub fn unescaped(alloc: Global, text: &[u8]) -> Result<Bytes, AllocError>
     ensures { IfOk result (λ bytes. bytes ≡ unescaped_bytes text.now) }
 {
+    if is_bare(text) {
+        return Bytes::of(alloc, text);
+    }
     let mut bytes = Bytes::new(alloc);
     for byte in text {
         if *byte != b'\\' {

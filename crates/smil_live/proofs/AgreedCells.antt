@@ -1,6 +1,6 @@
 -- Cells that go on with an edited document from the part of the diary that stays, and how often
 -- edits and backward seeks have intervals evaluated.
-use Rattle.std.proofs.Common.{◌≡◌, refl, sym, ◌∙◌, ap, subst, ℕ, ◌+◌, ◌≤◌, ◌++◌, List, length, take, drop, ℤ, negsuc, Bool, true, false, Result, Ok, Err, arith}
+use Rattle.std.proofs.Common.{◌≡◌, refl, sym, ◌∙◌, ap, subst, ℕ, ◌+◌, ◌≤◌, ◌++◌, List, length, take, drop, ℤ, negsuc, Bool, true, Result, Ok, Err, arith}
 use Rattle.std.specs.Prelude.{IfErr, OnOk, filter, int_le, nat_abs, nat_lt, pos, ◌<ℤ◌, ◌≤ℤ◌}
 use Rattle.std.proofs.lemmas.Bool.{lt-ltb}
 use Rattle.std.proofs.lemmas.Int.{ints}
@@ -17,7 +17,7 @@ use Rattle.smil_model.specs.shown.Orders.{IsState, Presentation, course_of}
 use Rattle.smil_grammar.specs.Formats.{formats}
 use Rattle.smil_cells.specs.CellsState.{IsRebuilt, MayRebuild, CellsState, WhereTold}
 use Rattle.smil_live.specs.Counted.{IsAtLeast, IsAtMost, KeepsToCounts, IsFree}
-use Rattle.smil_live.specs.Counts.{diary_at, least_between, least_seeking, most_between, most_number, most_seeking, reached_behind, told_where}
+use Rattle.smil_live.specs.Counts.{diary_at, least_between, least_loading, least_seeking, most_between, most_number, most_seeking, reached_behind, told_where}
 use Rattle.smil_live.specs.Editing.{IsEdited, edit_of}
 use Rattle.smil_shown.specs.ShownViews.{IsPlaying}
 use Rattle.smil_live.specs.Moves.{IsReplayed, IsTooFull, IsUnderWay, edited_to, sought_of}
@@ -93,7 +93,7 @@ most_is p (order.Insert who place line column) d edits = refl
 most_is p (order.Remove who) d edits = refl
 most_is p _ d edits = absurd cc
 
-least_is : (p q : Presentation) (o : Order) → is_edit o ≡ true → least_between p o q ≡ 0
+least_is : (p q : Presentation) (o : Order) → is_edit o ≡ true → least_loading q ≡ least_between p o q
 least_is p q (order.Set who name value name_column column) edits = refl
 least_is p q (order.Unset who name column) edits = refl
 least_is p q (order.Insert who place line column) edits = refl
@@ -108,20 +108,18 @@ edited_most (Ok x) counts p q o d at old new rise edits edited here is most =
     (subst (λ (n : ℕ). WhereTold counts (rise ≤ n)) (ap (λ (x : Site). most_resolving p x d) here ∙ (most_is p o d edits ∙ ap (most_between p o) (sym is.state))) most)
 
 edited_least : (r : Result (Unit {0}) Refusal) (counts : Bool) (p q : Presentation) (o : Order) (d : Document) (old new : List ℕ) (rise : ℕ) → is_edit o ≡ true → edit_of p o ≡ Ok d
-    → OnOk r (IsEdited p d q old new) → OnOk r (IsAtLeast counts p o rise)
-edited_least (Err e) counts p q o d old new rise edits edited is = tt
-edited_least (Ok x) counts p q o d old new rise edits edited is =
-    at_least counts p q o rise (edited_accepted p q o d old new edits edited is).state (subst (λ (n : ℕ). WhereTold counts (n ≤ rise)) (sym (least_is p q o edits)) (none counts))
-  where
-    none : (t : Bool) → WhereTold t (0 ≤ rise)
-    none true = omega arith
-    none false = tt
+    → OnOk r (IsEdited p d q old new) → OnOk r (WhereTold counts (least_loading (edited_to p d) ≤ rise)) → OnOk r (IsAtLeast counts p o rise)
+edited_least (Err e) counts p q o d old new rise edits edited is least = tt
+edited_least (Ok x) counts p q o d old new rise edits edited is least =
+    at_least counts p q o rise (edited_accepted p q o d old new edits edited is).state
+    (subst (λ (n : ℕ). WhereTold counts (n ≤ rise)) (ap least_loading (sym is.state) ∙ least_is p q o edits) least)
 
 edited_bounded : (r : Result (Unit {0}) Refusal) (counts : Bool) (p q : Presentation) (o : Order) (d : Document) (at : Site) (old new : List ℕ) (rise : ℕ) → is_edit o ≡ true → edit_of p o ≡ Ok d → at ≡ site_of p.document o
-    → OnOk r (IsEdited p d q old new) → OnOk r (WhereTold counts (rise ≤ most_resolving p at d)) → IfErr r (IsTooFull (edited_to p d)) → KeepsToCounts counts p o r rise
-edited_bounded r counts p q o d at old new rise edits edited here is most refused = record {
+    → OnOk r (IsEdited p d q old new) → OnOk r (WhereTold counts (rise ≤ most_resolving p at d)) → OnOk r (WhereTold counts (least_loading (edited_to p d) ≤ rise)) → IfErr r (IsTooFull (edited_to p d))
+    → KeepsToCounts counts p o r rise
+edited_bounded r counts p q o d at old new rise edits edited here is most least refused = record {
   most = edited_most r counts p q o d at old new rise edits edited here is most;
-  least = edited_least r counts p q o d old new rise edits edited is;
+  least = edited_least r counts p q o d old new rise edits edited is least;
   free =
       IfErr-weaker r (IsTooFull (edited_to p d)) (λ (e : Refusal). IsFree counts p o e rise)
       (λ e full. free_too_full (told_where counts (most_number p o)) (edited_to p d) e rise full) refused;
@@ -135,12 +133,13 @@ pub record IsAnswered (r : Result (Unit {0}) Refusal) (counts : Bool) (p q : Pre
   pub bounded : KeepsToCounts counts p o r rise
 
 pub edit_answered : (r : Result (Unit {0}) Refusal) (counts : Bool) (p q : Presentation) (o : Order) (d : Document) (at : Site) (old new : List ℕ) (rise : ℕ) → is_edit o ≡ true → edit_of p o ≡ Ok d → at ≡ site_of p.document o
-    → OnOk r (IsEdited p d q old new) → OnOk r (WhereTold counts (rise ≤ most_resolving p at d)) → IfErr r (IsTooFull (edited_to p d)) → IsAnswered r counts p q o old new rise
-edit_answered r counts p q o d at old new rise edits edited here is most refused = record {
+    → OnOk r (IsEdited p d q old new) → OnOk r (WhereTold counts (rise ≤ most_resolving p at d)) → OnOk r (WhereTold counts (least_loading (edited_to p d) ≤ rise)) → IfErr r (IsTooFull (edited_to p d))
+    → IsAnswered r counts p q o old new rise
+edit_answered r counts p q o d at old new rise edits edited here is most least refused = record {
   ok = on_ok_weaker r (edited_accepted p q o d old new edits edited) is;
   appended = on_ok_weaker r (edited_appended p q d old new) is;
   refused = IfErr-weaker r (IsTooFull (edited_to p d)) (Refuses formats p o) (λ e h. not_edited p o d e edits edited h) refused;
-  bounded = edited_bounded r counts p q o d at old new rise edits edited here is most refused;
+  bounded = edited_bounded r counts p q o d at old new rise edits edited here is most least refused;
 }
 
 -- ---- a seek back
@@ -161,16 +160,13 @@ sought_most (Ok x) counts p q s to text rise clock back is here accepted most =
     (subst (λ (t : Bool). WhereTold counts (rise ≤ most_seeking t p q)) (sym (below to p.now (clock_from to clock).0 back))
     (subst (λ (z : Presentation). WhereTold counts (rise ≤ length (elements z.document.nodes))) (sym (here ∙ is.presentation_is)) most))
 
-pub sought_least : (r : Result (Unit {0}) Refusal) (counts : Bool) (p q : Presentation) (to : ℤ) (text : List ℕ) (rise : ℕ) → is_clock to ≡ true → to <ℤ pos p.now
-    → OnOk r (Accepts formats p q (order.Seek to) text) → OnOk r (IsAtLeast counts p (order.Seek to) rise)
-sought_least (Err e) counts p q to text rise clock back accepted = tt
-sought_least (Ok x) counts p q to text rise clock back accepted =
+pub sought_least : (r : Result (Unit {0}) Refusal) (counts : Bool) (p q : Presentation) (s : CellsState) (to : ℤ) (text : List ℕ) (rise : ℕ) → is_clock to ≡ true → to <ℤ pos p.now → IsReplayed (sought_of p to) s
+    → OnOk r (q ≡ s.presentation) → OnOk r (Accepts formats p q (order.Seek to) text) → WhereTold counts (least_loading (sought_of p to) ≤ rise) → OnOk r (IsAtLeast counts p (order.Seek to) rise)
+sought_least (Err e) counts p q s to text rise clock back is here accepted least = tt
+sought_least (Ok x) counts p q s to text rise clock back is here accepted least =
     at_least counts p q (order.Seek to) rise accepted.state
-    (subst (λ (t : Bool). WhereTold counts (least_seeking t p q ≤ rise)) (sym (below to p.now (clock_from to clock).0 back)) (none counts))
-  where
-    none : (t : Bool) → WhereTold t (0 ≤ rise)
-    none true = omega arith
-    none false = tt
+    (subst (λ (t : Bool). WhereTold counts (least_seeking t p q ≤ rise)) (sym (below to p.now (clock_from to clock).0 back))
+    (subst (λ (z : Presentation). WhereTold counts (least_loading z ≤ rise)) (sym (here ∙ is.presentation_is)) least))
 
 -- ---- the diary that is kept
 

@@ -1,13 +1,14 @@
 -- What is opened, and what is told of it.
-use Rattle.std.proofs.Common.{◌≡◌, ℕ, List, [], ◌++◌, Some, Ok, Err, sym, ap, ◌∙◌, subst}
+use Rattle.std.proofs.Common.{◌≡◌, refl, ℕ, List, [], ◌++◌, Some, Ok, Err, sym, ap, ◌∙◌, subst}
 use Rattle.std.specs.Prelude.{◌⊎◌}
 use Rattle.smil_model.specs.declared.order.Refusal.{Refusal}
 use Rattle.smil_model.specs.declared.order.Refusal.TheVariants as refusal
 use Rattle.smil_model.specs.declared.view.View.{View}
 use Rattle.smil_model.specs.document.Document.{Document}
+use Rattle.smil_model.specs.document.Valid.{IsValid}
 use Rattle.smil_model.specs.happening.Resolution.{diary_of}
 use Rattle.smil_model.specs.shown.Answers.{load_text}
-use Rattle.smil_model.specs.shown.Orders.{Presentation, course_of, opened, views_of}
+use Rattle.smil_model.specs.shown.Orders.{IsState, Presentation, course_of, opened, views_of}
 use Rattle.smil_cells.specs.CellsState.{IsSettled, CellsState}
 use Rattle.smil_shown.specs.ShownViews.{views_at}
 use Rattle.smil_live.specs.Moves.{IsReplayed, IsTooFull}
@@ -27,6 +28,9 @@ told_load s d before after m old new settled same none seen moment told =
 -- a document at moment 0, with an empty log
 abbrev pub first_of : Document → Presentation
 first_of d = record { document = d; log = []; now = 0 }
+
+pub first_state : (d : Document) → IsValid d → IsState (first_of d)
+first_state d valid = record { document = valid; log = refl; logged = refl; now = refl }
 
 pub opens : (d : Document) (q : Presentation) (s : CellsState) → q ≡ s.presentation → IsReplayed (first_of d) s → opened d ≡ Ok q
 opens d q s same is = has_room (first_of d) q s.diary (same ∙ is.presentation_is) (subst (λ (r : Presentation). diary_of (course_of r) ≡ Some s.diary) (sym same) is.settled)

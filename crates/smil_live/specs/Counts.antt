@@ -111,8 +111,9 @@ most_between before (order.Insert who place line column) after = most_editing be
 most_between before (order.Remove who) after = most_editing before after (order.Remove who)
 most_between before _ after = 0
 
+-- a backward seek: the elements that then have an interval
 abbrev pub least_seeking : Bool → Presentation → Presentation → ℕ
-least_seeking true before after = 0
+least_seeking true before after = least_loading after
 least_seeking false before after = least_onward before after
 
 abbrev pub least_between : Presentation → Order → Presentation → ℕ
@@ -122,6 +123,10 @@ least_between before (order.Seek to) after =
 least_between before (order.Event who name) after = least_onward before after
 least_between before (order.Media who len) after = least_onward before after
 least_between before (order.Key key) after = least_onward before after
+least_between before (order.Set who name value name_column column) after = least_loading after
+least_between before (order.Unset who name column) after = least_loading after
+least_between before (order.Insert who place line column) after = least_loading after
+least_between before (order.Remove who) after = least_loading after
 least_between before _ after = 0
 
 -- a refused order has no bound to tell

@@ -3,5 +3,6 @@ pub mod Counts
 pub mod Editing
 pub mod Moves
 pub mod Sites
+pub mod Sought
 pub mod Telling
 pub mod WorkedCounts

@@ -47,11 +47,14 @@ lengthened = Set (Serial 3) (codes "dur") (codes "3ms") 7 11
 -- at the load each of the 5 elements gets an interval, and the begins of the root and of the
 -- branches reach 5, 3 and 3; in the advance the begin and the end of the image reach 2 each; the
 -- edit leaves the begin of the root and of the first branch as they were, so that besides the 5
--- elements the begin of the second branch and those of the image are left, which reach 3, 2 and 2
+-- elements the begin of the second branch and those of the image are left, which reach 3, 2 and 2;
+-- after the backward seek each element has an interval, and after the edit each but the first image
 pub record WorkedCounts : Type 0 where
   pub load_at_most : most_loading (at_moment 0) ≡ 16
   pub load_at_least : least_loading (at_moment 0) ≡ 5
   pub advance_at_most : most_number (at_moment 0) (Advance (pos 4)) ≡ 4
   pub advance_at_least : least_number (at_moment 0) (Advance (pos 4)) ≡ 0
   pub seek_at_most : most_number (at_moment 4) (Seek (pos 2)) ≡ 5
+  pub seek_at_least : least_number (at_moment 4) (Seek (pos 2)) ≡ 5
   pub set_at_most : most_number (at_moment 4) lengthened ≡ 12
+  pub set_at_least : least_number (at_moment 4) lengthened ≡ 4

@@ -10,7 +10,7 @@ ghost use Rattle.smil_grammar.specs.Formats.{formats};
 ghost use Rattle.smil_model.specs.document.Words.{Begins};
 ghost use Rattle.smil_cells.specs.CellsState.{WhereTold};
 ghost use Rattle.smil_live.specs.Counted.{KeepsToCounts};
-ghost use Rattle.smil_live.specs.Counts.{agreed_under, serial_or_0};
+ghost use Rattle.smil_live.specs.Counts.{agreed_under, least_loading, serial_or_0};
 ghost use Rattle.smil_live.specs.Editing.{IsEdited, edit_of};
 ghost use Rattle.smil_shown.specs.ShownViews.{IsPlaying};
 ghost use Rattle.smil_live.specs.Moves.{IsReplayed, IsTooFull, edited_to, text_of};
@@ -22,7 +22,8 @@ use super::replay::{cells_with, diary_through};
 use smil_cells::{Cells, Table};
 use smil_diary::Book;
 use smil_instances::parent_of;
-use smil_model::{Bytes, Refusal, Steps, Who};
+use smil_interval::Steps;
+use smil_model::{Bytes, Refusal, Who};
 use smil_past::GraphedTree;
 use smil_revision::{
     Child, GraphedDocument, LineText, Revision, Setting, keeps_references, with_child, with_value,
@@ -239,6 +240,8 @@ impl<T: Table> PresentationOver<T> {
         ensures counted { steps.old ≤ steps.new }
         ensures most { OnOk result (WhereTold T.counts
             (steps.new - steps.old ≤ most_resolving self.old site edited)) }
+        ensures least { OnOk result (WhereTold T.counts
+            (least_loading (edited_to self.old edited) ≤ steps.new - steps.old)) }
     {
         let mut cells = self.edited_cells(edited, site, steps)?;
         self.take_over(&mut cells, out)
@@ -282,6 +285,8 @@ impl<T: Table> PresentationOver<T> {
         ensures counted { steps.old ≤ steps.new }
         ensures most { OnOk result (WhereTold T.counts
             (steps.new - steps.old ≤ most_resolving self.now site edited)) }
+        ensures least { OnOk result (WhereTold T.counts
+            (least_loading (edited_to self.now edited) ≤ steps.new - steps.old)) }
     {
         edited.valid();
         let graphed = GraphedTree::of(self.alloc, edited)?;

@@ -2,12 +2,15 @@
 #![tactic(auto)]
 
 mod edits;
+mod laws;
 mod moves;
+mod outlines;
 mod presentation;
 mod replay;
 mod tells;
 mod viewer;
 mod worked;
 
+pub use laws::seek_back_keeps_diary;
 pub use presentation::{Presentation, PresentationOver};
 pub use worked::worked_counts;

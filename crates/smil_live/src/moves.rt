@@ -10,15 +10,14 @@ ghost use Rattle.smil_model.specs.shown.Orders.{IsState};
 ghost use Rattle.smil_grammar.specs.Formats.{formats};
 ghost use Rattle.smil_cells.specs.CellsState.{WhereTold};
 ghost use Rattle.smil_live.specs.Counted.{KeepsToCounts};
-ghost use Rattle.smil_live.specs.Counts.{least_onward, most_onward};
+ghost use Rattle.smil_live.specs.Counts.{least_loading, least_onward, most_onward};
 ghost use Rattle.smil_live.specs.Moves.{IsHeardBy, IsNotHeard, IsReplayed, IsTooFull, MayMove, changes_by, made, sought_of, text_of};
 
 use super::presentation::PresentationOver;
 use super::replay::cells_at;
 use smil_cells::{Cells, Table};
-use smil_model::{
-    Bytes, Duplicate, HORIZON, Happening, Kind, LOG_ENTRIES, LogEntry, Refusal, Steps, Who,
-};
+use smil_interval::Steps;
+use smil_model::{Bytes, HORIZON, Happening, Kind, LOG_ENTRIES, LogEntry, Refusal, Who};
 use std::sync::ledger::Ledger;
 
 /// How a presentation goes on from its present state. Moments are in milliseconds of document time.
@@ -124,6 +123,8 @@ impl<T: Table> PresentationOver<T> {
         ensures counted { steps.old ≤ steps.new }
         ensures most { OnOk result (WhereTold T.counts
             (steps.new - steps.old ≤ length_of (elements self.now.document.nodes))) }
+        ensures least { OnOk result (WhereTold T.counts
+            (least_loading (sought_of self.now to) ≤ steps.new - steps.old)) }
     {
         cells_at(&self.viewer.cells, to, steps)
     }
@@ -150,7 +151,7 @@ impl<T: Table> PresentationOver<T> {
     {
         self.settled();
         let serial = self.element(who)?;
-        let name = name.copy()?;
+        let name = Bytes::of(self.alloc, name.slice())?;
         self.hear(Happening::Event { who: serial, name }, out, steps)
     }
 

@@ -16,7 +16,8 @@ ghost use Rattle.smil_live.specs.Moves.{IsReplayed, IsTooFull, IsUnderWay, edite
 
 use smil_cells::{Cells, Table};
 use smil_diary::Book;
-use smil_model::{Doc, Duplicate, LOG_ENTRIES, LogEntry, Refusal, StepKind, Steps};
+use smil_interval::Steps;
+use smil_model::{Doc, Duplicate, LOG_ENTRIES, LogEntry, Refusal, StepKind};
 use smil_past::GraphedTree;
 use std::alloc::Global;
 use std::sync::ledger::Ledger;
@@ -75,6 +76,8 @@ pub fn cells_at<T: Table, L: Ledger>(
     ensures counted { steps.old ≤ steps.new }
     ensures most { OnOk result (WhereTold T.counts
         (steps.new - steps.old ≤ length (elements cells.now.presentation.document.nodes))) }
+    ensures least { OnOk result (WhereTold T.counts
+        (least_loading (sought_of cells.now.presentation to) ≤ steps.new - steps.old)) }
 {
     cells.past().possible();
     let doc = cells.tree().doc_copy()?;
@@ -105,6 +108,9 @@ pub fn cells_with<T: Table, L: Ledger>(
     ensures most { OnOk result (WhereTold T.counts
         (steps.new - steps.old ≤ length (elements graphed.tree.nodes) + reached_behind len
         (edited_to cells.now.presentation graphed.tree))) }
+    ensures least { OnOk result (WhereTold T.counts
+        (least_loading (edited_to cells.now.presentation graphed.tree)
+        ≤ steps.new - steps.old)) }
 {
     let replay = Replay {
         log: cells.log().slice(),

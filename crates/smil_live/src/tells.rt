@@ -15,11 +15,11 @@ ghost use Rattle.smil_model.specs.document.Words.{Begins};
 ghost use Rattle.smil_shown.specs.Sets.{AreSetsAmong, AreSetsOf};
 ghost use Rattle.smil_live.specs.Telling.{element_named, is_plain_telling, is_telling, layers_text, setter_text};
 
+use super::outlines::{put_outline, put_saved_outline};
 use super::presentation::PresentationOver;
 use smil_cells::Table;
 use smil_diary::Book;
 use smil_model::{Bytes, Log, Order, Refusal, Who};
-use smil_outline::{write_doc, write_doc_2};
 use smil_report::{SetValue, put_entry, put_layer, put_now, put_outline_end, put_value};
 use smil_shown::{Scene, Sets, Subject, name_of, put_intervals, put_views};
 use smil_tree::Tree;
@@ -103,7 +103,7 @@ impl<T: Table> PresentationOver<T> {
             ++ answer_text formats self.now self.now order.Text) }
         ensures begins { Begins out.old out.new }
     {
-        write_doc(&self.viewer.cells.tree().doc_copy()?, out)
+        put_outline(self.viewer.cells.tree(), out)
     }
 
     // Appends the outline of the document with its serials.
@@ -112,7 +112,7 @@ impl<T: Table> PresentationOver<T> {
             ++ answer_text formats self.now self.now order.Save) }
         ensures begins { Begins out.old out.new }
     {
-        write_doc_2(&self.viewer.cells.tree().doc_copy()?, out)
+        put_saved_outline(self.viewer.cells.tree(), out)
     }
 
     // Appends the intervals of an element. `NoElement` where there is no such node, `BadPlace`
@@ -137,10 +137,9 @@ impl<T: Table> PresentationOver<T> {
             ≡ n.serial → OnOk result (out.new ≡ out.old ++ history_text self.now (Some n)) }
         ensures begins { Begins out.old out.new }
     {
-        let name = name_of(self.viewer.cells.tree(), serial)?;
         let subject = Subject {
             serial,
-            name: &name,
+            name: name_of(self.viewer.cells.tree(), serial),
         };
         put_intervals(self.alloc, &self.viewer.cells, subject, out)
     }
@@ -265,10 +264,10 @@ fn put_top(
     put_value(
         out,
         &SetValue {
-            target: &name_of(tree, target)?,
+            target: name_of(tree, target),
             attr: name.slice(),
             value,
-            setter: &name_of(tree, setter)?,
+            setter: name_of(tree, setter),
         },
     )
 }
@@ -302,8 +301,7 @@ fn put_setter(tree: &Tree, setter: u32, out: &mut Bytes) -> Result<(), AllocErro
     ensures ok { OnOk result (out.new ≡ out.old ++ setter_text tree.now.nodes setter) }
     ensures err { OnErr result (out.new ≡ out.old) }
 {
-    let name = name_of(tree, setter)?;
-    put_layer(out, &name, value_of(tree, setter))
+    put_layer(out, name_of(tree, setter), value_of(tree, setter))
 }
 
 // The value that a set sets; an empty one where it has none.

@@ -13,7 +13,8 @@ ghost use Rattle.smil_shown.specs.Told.{lines_between};
 
 use super::moves::Move;
 use smil_cells::{Cells, Table};
-use smil_model::{Bytes, LogEntry, Refusal, Steps};
+use smil_interval::Steps;
+use smil_model::{Bytes, LogEntry, Refusal};
 use smil_shown::{Scene, ViewTable, put_view, view_in};
 use std::alloc::AllocError;
 use std::sync::ledger::Ledger;

@@ -1,37 +1,18 @@
 -- Tournaments: which places stay decided where one changes, how many there are, and what the first one comes to.
-use Rattle.std.proofs.Common.{◌≡◌, ◌≢◌, ◌∙◌, ap, sym, subst, refl, ℕ, max, ◌^◌, zero, suc, ◌+◌, ◌*◌, ◌/◌, ◌<◌, ◌≤◌, List, [], ◌∷◌, ◌++◌, length, drop, get_or-set_other, get_or-set_same, set, arith, length-append, ◌⊎◌, inl, inr}
+use Rattle.std.proofs.Common.{◌≡◌, ◌≢◌, ◌∙◌, ap, sym, subst, ℕ, max, ◌^◌, zero, suc, ◌+◌, ◌*◌, ◌/◌, ◌<◌, ◌≤◌, List, [], ◌∷◌, ◌++◌, length, drop, get_or-set_other, get_or-set_same, set, arith, length-append, ◌⊎◌, inl, inr}
 use Rattle.std.proofs.Math.ListN.{drop_of_length-le}
 use Rattle.std.proofs.Math.Nat.{mul-le-mul_left, one-le-pow, pow-le-pow_right, pow-suc}
 use Rattle.std.proofs.Math.Seq.{drop-cons}
 use Rattle.std.proofs.lemmas.Bool.{cases_eq, cases_lt}
 use Rattle.std.proofs.lemmas.List.{drop_at, get_or_past}
-use Rattle.smil_model.specs.Tournaments.{at_place, place_up, IsDecided, IsOff, IsSum, IsTournament, most_items}
-
--- ---- the way up
-
-from_zero : (steps : ℕ) → place_up steps 0 ≡ 0
-from_zero zero = refl
-from_zero (suc steps) = from_zero steps
-
--- no place above 0 is on the way up from 0
-off_zero : (i place : ℕ) → 0 < i → place ≡ 0 → IsOff i place
-off_zero i place above none steps e =
-    let z : i ≡ 0 = e ∙ ap (place_up steps) none ∙ from_zero steps in
-    absurd (omega arith)
-
--- what is off the way up from the half of a place, and is not that half, is off the way up from the place before
-off_more : (i place : ℕ) → i ≢ place → IsOff i (place / 2) → IsOff i place
-off_more i place differ off zero e = differ e
-off_more i place differ off (suc steps) e = off steps e
+use Rattle.smil_model.specs.Tournaments.{at_place, IsDecided, IsSum, IsTournament, most_items}
 
 -- ---- the decided
 
 module _ {A : Type 0} (none : A) (both : A → A → A) where
   -- at the top all is decided
-  pub at_top : (places : List A) (half place : ℕ) → place ≤ 1 → ((i : ℕ) → 0 < i → i < half → IsOff i (place / 2) → IsDecided none both places i) → (i : ℕ) → 0 < i → i < half → IsDecided none both places i
-  at_top places half place top off i above below =
-      let empty : place / 2 ≡ 0 = omega arith in
-      off i above below (off_zero i (place / 2) above empty)
+  pub at_top : (places : List A) (half place : ℕ) → place ≤ 1 → ((i : ℕ) → 0 < i → i < half → i ≢ place / 2 → IsDecided none both places i) → (i : ℕ) → 0 < i → i < half → IsDecided none both places i
+  at_top places half place top others i above below = others i above below (λ e. absurd (omega (arith, e, above, top)))
 
   -- a place that is given what comes of the two below it is decided
   decides : (places : List A) (place : ℕ) (item : A) → 0 < place → place < length places → item ≡ both (at_place none places (2 * place)) (at_place none places (2 * place + 1)) → IsDecided none both (set places place item) place
@@ -51,19 +32,19 @@ module _ {A : Type 0} (none : A) (both : A → A → A) where
       ∙ decided
       ∙ (λ j. both (sym (get_or-set_other places place (i + i) item none first) j) (sym (get_or-set_other places place (i + i + 1) item none second) j))
 
-  -- a change breaks nothing but what is above it
-  pub changed_slot : (places : List A) (half place : ℕ) (item : A) → half ≤ place → ((i : ℕ) → 0 < i → i < half → IsDecided none both places i) → (i : ℕ) → 0 < i → i < half → IsOff i (place / 2) → IsDecided none both (set places place item) i
-  changed_slot places half place item from decided i above below off =
-      stays places i place item (λ e. absurd (omega arith)) (λ e. off zero (omega arith)) (λ e. off zero (omega arith)) (decided i above below)
+  -- a change breaks nothing but the place above it
+  pub changed_slot : (places : List A) (half place : ℕ) (item : A) → half ≤ place → ((i : ℕ) → 0 < i → i < half → IsDecided none both places i) → (i : ℕ) → 0 < i → i < half → i ≢ place / 2 → IsDecided none both (set places place item) i
+  changed_slot places half place item from decided i above below other =
+      stays places i place item (λ e. absurd (omega arith)) (λ e. other (omega arith)) (λ e. other (omega arith)) (decided i above below)
 
   -- one more place is decided on the way up
-  pub decided_more : (places : List A) (half place : ℕ) (item : A) → 0 < place → place < half → half ≤ length places → item ≡ both (at_place none places (2 * place)) (at_place none places (2 * place + 1)) → ((i : ℕ) → 0 < i → i < half → IsOff i place → IsDecided none both places i) → (i : ℕ) → 0 < i → i < half → IsOff i (place / 2) → IsDecided none both (set places place item) i
-  decided_more places half place item above below within is decided i i_above i_below off = by_case (cases_eq i place)
+  pub decided_more : (places : List A) (half place : ℕ) (item : A) → 0 < place → place < half → half ≤ length places → item ≡ both (at_place none places (2 * place)) (at_place none places (2 * place + 1)) → ((i : ℕ) → 0 < i → i < half → i ≢ place → IsDecided none both places i) → (i : ℕ) → 0 < i → i < half → i ≢ place / 2 → IsDecided none both (set places place item) i
+  decided_more places half place item above below within is decided i i_above i_below other = by_case (cases_eq i place)
     where
       by_case : (i ≡ place) ⊎ (i ≢ place) → IsDecided none both (set places place item) i
       by_case (inl e) = subst (IsDecided none both (set places place item)) (sym e) (decides places place item above (omega arith) is)
       by_case (inr differ) =
-          stays places i place item differ (λ e. off zero (omega arith)) (λ e. off zero (omega arith)) (decided i i_above i_below (off_more i place differ off))
+          stays places i place item differ (λ e. other (omega arith)) (λ e. other (omega arith)) (decided i i_above i_below differ)
 
   -- one more place is decided, from the last one down
   pub decided_down : (places : List A) (half place : ℕ) (item : A) → 0 < place → place < half → half ≤ length places → item ≡ both (at_place none places (2 * place)) (at_place none places (2 * place + 1)) → ((i : ℕ) → place + 1 ≤ i → 0 < i → i < half → IsDecided none both places i) → (i : ℕ) → place ≤ i → 0 < i → i < half → IsDecided none both (set places place item) i

@@ -1,5 +1,7 @@
 pub mod Times
 pub mod Rising
+pub mod SerialTable
+pub mod PlaceSet
 pub mod FirstPlaces
 pub mod ListTables
 pub mod Tournaments

@@ -1,6 +1,6 @@
 -- A tournament over a list of places: each place has what comes of the two below it.
 -- `none` is the item of an empty place, and `both` what comes of two.
-use Rattle.std.specs.Prelude.{◌≡◌, ◌≢◌, ℕ, zero, suc, ◌+◌, ◌/◌, ◌^◌, ◌<◌, ◌≤◌, List, [], ◌∷◌, ◌++◌, length, slice_index_or}
+use Rattle.std.specs.Prelude.{◌≡◌, ℕ, ◌+◌, ◌^◌, ◌<◌, ◌≤◌, List, [], ◌∷◌, ◌++◌, length, slice_index_or}
 
 -- the greatest number of items
 abbrev pub most_items : ℕ
@@ -14,15 +14,6 @@ at_place none places i = slice_index_or places i none
 abbrev pub IsDecided : {A : Type 0} → A → (A → A → A) → List A → ℕ → Type 0
 IsDecided none both places i =
     at_place none places i ≡ both (at_place none places (i + i)) (at_place none places (i + i + 1))
-
--- so many places up from a place
-abbrev pub place_up : ℕ → ℕ → ℕ
-place_up zero place = place
-place_up (suc steps) place = place_up steps (place / 2)
-
--- a place is not on the way up from another, which is on it itself
-abbrev pub IsOff : ℕ → ℕ → Type 0
-IsOff i place = (steps : ℕ) → i ≢ place_up steps place
 
 -- the places from 1 to below `half`, a power of 2, have what comes of the two below each,
 -- and behind them stand the items, at most `half` of them

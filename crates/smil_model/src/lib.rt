@@ -11,10 +11,10 @@ pub mod happening;
 pub mod interval;
 pub mod limits;
 pub mod order;
+pub mod place_set;
 pub mod places;
-pub mod player;
 pub mod references;
-pub mod steps;
+pub mod serial_table;
 pub mod times;
 pub mod tournament;
 pub mod view;
@@ -35,10 +35,10 @@ pub use limits::{
     TEXT_BYTES,
 };
 pub use order::{Order, Refusal, Who};
+pub use place_set::PlaceSet;
 pub use places::{HasSerial, first_places, position_in};
-pub use player::Player;
 pub use references::{references_in, references_in_items, references_in_list};
-pub use steps::Steps;
+pub use serial_table::SerialTable;
 pub use times::{CARRIED, HORIZON, Time, capped, greatest, later, least, moved};
 pub use tournament::{Contender, Tournament};
 pub use view::{How, Layer, Shown, State, View, ViewFacts};

@@ -1,13 +1,13 @@
 //! Where serials stand in a list.
 
-ghost use Rattle.std.specs.Prelude.{◌≡◌, ◌<◌, ◌==◌, ℕ, nat_eq, length, Some, None, IfOk, IfSome, OnOk, if◌then◌else◌};
-ghost use Rattle.std.specs.HashMap.{get};
+ghost use Rattle.std.specs.Prelude.{◌≡◌, ◌<◌, ◌==◌, ℕ, length, Some, None, IfOk, IfSome, OnOk, if◌then◌else◌};
+ghost use Rattle.std.specs.FinMap.{get};
 ghost use Rattle.std.specs.List.{position};
 ghost use Rattle.std.specs.Option.{option_or};
 ghost use Rattle.smil_model.specs.FirstPlaces.{AreFirstPlaces};
 
+use super::serial_table::SerialTable;
 use std::alloc::{AllocError, Global};
-use std::collections::HashMap;
 
 /// What is kept of a node, with its serial.
 pub trait HasSerial {
@@ -37,13 +37,10 @@ pub fn position_in(list: &[u32], serial: u32) -> Option<usize>
 }
 
 /// The place of each serial in a list, from 0; of a serial that stands there twice the first one.
-pub fn first_places<T: HasSerial>(
-    alloc: Global,
-    rows: &[T],
-) -> Result<HashMap<u32, usize>, AllocError>
-    ensures { IfOk result (λ places. AreFirstPlaces T.serial (get nat_eq places) rows.now) }
+pub fn first_places<T: HasSerial>(alloc: Global, rows: &[T]) -> Result<SerialTable, AllocError>
+    ensures { IfOk result (λ places. AreFirstPlaces T.serial (get places) rows.now) }
 {
-    let mut places = HashMap::new(alloc);
+    let mut places = SerialTable::new(alloc);
     for (place, row) in rows.iter().enumerate() {
         note_place(&mut places, row.serial(), place)?;
     }
@@ -51,13 +48,12 @@ pub fn first_places<T: HasSerial>(
 }
 
 // Notes the place of a serial, where it has none yet.
-fn note_place(places: &mut HashMap<u32, usize>, serial: u32, place: usize) -> Result<(), AllocError>
-    ensures { OnOk result ((s : ℕ) → get nat_eq places.new s
-        ≡ option_or (get nat_eq places.old s) (if serial == s then Some place else None)) }
+fn note_place(places: &mut SerialTable, serial: u32, place: usize) -> Result<(), AllocError>
+    ensures { OnOk result ((s : ℕ) → get places.new s
+        ≡ option_or (get places.old s) (if serial == s then Some place else None)) }
 {
-    if places.contains_key(&serial) {
+    if places.get(serial).is_some() {
         return Ok(());
     }
-    places.insert(serial, place)?;
-    Ok(())
+    places.put(serial, place)
 }

@@ -1,7 +1,7 @@
 //! Items under a tournament of what comes of them.
 
-ghost use Rattle.std.specs.Prelude.{◌≡◌, ℕ, ◌+◌, ◌*◌, ◌/◌, ◌<◌, ◌≤◌, List, IfOk, length, drop, slice_set};
-ghost use Rattle.smil_model.specs.Tournaments.{at_place, IsDecided, IsOff, IsSum, most_items};
+ghost use Rattle.std.specs.Prelude.{◌≡◌, ◌≢◌, ◌↔◌, ℕ, ◌+◌, ◌*◌, ◌/◌, ◌<◌, ◌≤◌, List, IfOk, IsTrue, length, drop, slice_set};
+ghost use Rattle.smil_model.specs.Tournaments.{at_place, IsDecided, IsSum, most_items};
 
 use super::duplicate::Duplicate;
 use std::alloc::{AllocError, Global};
@@ -22,6 +22,10 @@ pub trait Contender: Copy {
     /// What comes of it and the one behind it. It takes no memory.
     fn with(self, behind: Self) -> Self
         ensures { result ≡ both self behind };
+
+    /// Whether it is the same as another item. It takes no memory.
+    fn is_same(self, other: Self) -> bool
+        ensures { IsTrue result ↔ (self ≡ other) };
 }
 
 /// Items under a tournament: each place has what comes of the two below it. It is seen as the list
@@ -68,12 +72,17 @@ impl<T: Contender> Tournament<T> {
         Ok(Tournament { places, half })
     }
 
-    /// Puts an item in the place of another. It takes log n steps for n items, and no memory.
+    /// Puts an item in the place of another. It takes a step for each place above it up to one that
+    /// stays as it is, so log n steps at most for n items and a fixed number where the item is the
+    /// same as before, and no memory.
     pub fn set(&mut self, index: usize, item: T)
         requires { index < length self.old }
         ensures { self.new ≡ slice_set self.old index item }
     {
         let place = self.half + index;
+        if self.places[place].is_same(item) {
+            return;
+        }
         self.places[place] = item;
         decide_above(&mut self.places, self.half, place);
     }
@@ -101,13 +110,13 @@ fn decide_all<T: Contender>(places: &mut [T], half: usize)
     }
 }
 
-// Decides anew what is above a place, upwards.
+// Decides anew what is above a place, upwards, up to a place that stays as it is.
 fn decide_above<T: Contender>(places: &mut [T], half: usize, place: usize)
     requires within { place < half + half }
     requires above { 0 < place }
     requires half { half ≤ most_items }
     requires from { half ≤ length places.old }
-    requires off { (i : ℕ) → 0 < i → i < half → IsOff i (place / 2)
+    requires others { (i : ℕ) → 0 < i → i < half → i ≢ place / 2
         → IsDecided T.none T.both places.old i }
     ensures decided { (i : ℕ) → 0 < i → i < half → IsDecided T.none T.both places.new i }
     ensures kept { drop half places.new ≡ drop half places.old }
@@ -115,7 +124,11 @@ fn decide_above<T: Contender>(places: &mut [T], half: usize, place: usize)
     let mut decided = place;
     while 1 < decided {
         decided /= 2;
+        let before = places[decided];
         decide(places, decided);
+        if places[decided].is_same(before) {
+            return;
+        }
     }
 }
 

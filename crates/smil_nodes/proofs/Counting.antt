@@ -3,7 +3,7 @@ use Rattle.std.proofs.Common.{◌≡◌, refl, sym, ◌∙◌, ap, subst, ℕ, �
 use Rattle.std.specs.Prelude.{cond, nat_eq, ◌==◌, ◌||◌, ◌⊎◌, filter}
 use Rattle.std.specs.List.{AllByRecursion, IsDistinct, flat_map}
 use Rattle.std.specs.Set.{is_member}
-use Rattle.std.proofs.lemmas.Bool.{or_left, or_right, or_cases, or_parts, eq-eqb, eqb-true}
+use Rattle.std.proofs.lemmas.Bool.{or_left, or_right, or_cases, eq-eqb, eqb-true}
 use Rattle.std.proofs.lemmas.Cmp.{nat_eq_equiv}
 use Rattle.std.proofs.lemmas.List.{length-map}
 use Rattle.std.proofs.lemmas.List.Concat.{length-flat_map}
@@ -28,15 +28,6 @@ member_has (x ∷ xs) s = ap (λ t. t || is_member nat_eq xs s) (nat_eq_equiv.sy
 -- a list of distinct serials, each of which another list has, is at most as long
 pub at_most : (xs ys : List ℕ) → IsDistinct nat_eq xs → ((s : ℕ) → has xs s ≡ true → has ys s ≡ true) → length xs ≤ length ys
 at_most xs ys distinct within = length-le_from_is_member nat_eq_equiv xs ys distinct (λ s q. member_has ys s ∙ within s (sym (member_has xs s) ∙ q))
-
--- one serial more, which the list has not
-pub distinct_more : (xs : List ℕ) (x : ℕ) → IsDistinct nat_eq xs → has xs x ≡ false → IsDistinct nat_eq (x ∷ xs)
-unfolding IsDistinct
-distinct_more xs x distinct none = (each xs none, distinct)
-  where
-    each : (ys : List ℕ) → has ys x ≡ false → AllByRecursion (λ y. nat_eq x y ≡ false) ys
-    each [] q = tt
-    each (y ∷ ys) q = let parts = or_parts (y == x) (has ys x) q in (nat_eq_equiv.symm x y ∙ parts.0, each ys parts.1)
 
 -- ---- what the entries reach
 

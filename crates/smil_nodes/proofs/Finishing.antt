@@ -21,7 +21,7 @@ use Rattle.smil_rounds.specs.Round.{AreRowsEvaluated, StayUnchanged}
 use Rattle.smil_cells.specs.CellsState.{any_interval, fresh, is_same_interval}
 use Rattle.smil_rounds.proofs.Current.{all_current}
 use Rattle.smil_cells.proofs.OnWay.{same_self}
-use Rattle.smil_nodes.specs.Work.{AreDueOnce, AreSettled, IsCounted, IsDue}
+use Rattle.smil_nodes.specs.Work.{AreChanged, AreDueOnce, AreSettled, IsCounted, IsDue}
 use Rattle.smil_nodes.proofs.Counting.{passing_within, within_reaches}
 use Rattle.smil_nodes.proofs.Fixed.{current_intervals}
 use Rattle.smil_nodes.proofs.Ranked.{element_of}
@@ -63,9 +63,17 @@ pub untold_stay : (front h : History) (now : ℤ) (old new : List CurrentRow) (t
 untold_stay front h now old new told changed before after unchanged s out =
     sym (current_intervals new h now after s) ∙ unchanged.others s out ∙ current_intervals old front now before s
 
+-- what is told has another current interval
+pub told_differ : (front h : History) (now : ℤ) (old new : List CurrentRow) (told changed : List ℕ) → AreCurrent old front now → AreCurrent new h now → AreChanged told changed (interval_in old) (interval_in new) → AreChanged told changed (current_interval front now) (current_interval h now)
+told_differ front h now old new told changed before after are s on =
+    elim (are s on) [
+      | inl was ↦ inl was
+      | inr differs ↦ inr (λ same. differs (current_intervals new h now after s ∙ same ∙ sym (current_intervals old front now before s)))
+    ]
+
 -- ---- how many were evaluated
 
-module _ (nodes : List Node) (log : List LogEntry) (entries : List Entry) (order : List ℕ) (listed : ℕ → Bool) (first rows : List CurrentRow) (start steps : ℕ) (counted : IsCounted nodes log entries order listed first rows start steps) where
+module _ (h : History) (moment : ℤ) (nodes : List Node) (log : List LogEntry) (entries : List Entry) (order : List ℕ) (listed : ℕ → Bool) (first rows : List CurrentRow) (start steps : ℕ) (counted : IsCounted h moment nodes log entries order listed first rows start steps) where
   -- at most as many as the entries reach
   pub counted_most : steps - start ≤ reaches nodes log entries
   counted_most =
@@ -74,9 +82,10 @@ module _ (nodes : List Node) (log : List LogEntry) (entries : List Entry) (order
       omega (arith, steps_are, most)
 
   -- the elements that are due by the intervals at the end, each once
-  pub evaluated_due : IsGraphOrder nodes order → (before after : ℕ → Option Interval) → ((s : ℕ) → interval_in first s ≡ before s) → ((s : ℕ) → interval_in rows s ≡ after s) → AreDueOnce nodes log entries before after (steps - start)
+  pub evaluated_due : IsGraphOrder nodes order → (before after : ℕ → Option Interval) → ((s : ℕ) → interval_in first s ≡ before s) → ((s : ℕ) → interval_in rows s ≡ after s) → AreDueOnce h moment nodes log entries first rows before after (steps - start)
   evaluated_due ordered before after was is = record {
     evaluated = counted.taken;
+    made = counted.made;
     as_many = let steps_are : steps ≡ start + length counted.taken = counted.steps_are in omega (arith, steps_are);
     distinct = counted.distinct;
     are_elements = λ s q.

@@ -1,7 +1,8 @@
 -- The row of an element in current rows.
-use Rattle.std.proofs.Common.{◌≡◌, refl, sym, ◌∙◌, ap, ℕ, suc, zero, ◌+◌, List, [], ◌∷◌, length, map, Some, ℤ, arith}
-use Rattle.std.specs.Prelude.{option_and_then, reverse, slice_get}
-use Rattle.std.proofs.lemmas.Bool.{eqb-true}
+use Rattle.std.proofs.Common.{◌≡◌, refl, sym, ◌∙◌, ap, ℕ, suc, zero, ◌+◌, List, [], ◌∷◌, length, map, Some, false, ℤ, arith}
+use Rattle.std.specs.Prelude.{◌==◌, nat_eq, option_and_then, reverse, slice_get}
+use Rattle.std.specs.List.{AllByRecursion, IsDistinct}
+use Rattle.std.proofs.lemmas.Bool.{eq-eqb, eqb-true}
 use Rattle.smil_model.specs.declared.document.Node.{Node}
 use Rattle.smil_model.specs.document.Document.{elements, node_at, serials}
 use Rattle.smil_model.specs.diary.Diary.{History}
@@ -55,6 +56,20 @@ first_serial who (x ∷ xs) zero row is got =
     let one : x ≡ row = cc in
     ap (λ (r : CurrentRow). r.serial) (sym one) ∙ eqb-true x.serial who is
 first_serial who (x ∷ xs) (suc k) row is got = first_serial who xs k row is.1 got
+
+-- of rows of different elements it is the first of its own
+pub first_apart : (rows : List CurrentRow) (k : ℕ) (row : CurrentRow) → IsDistinct nat_eq (map (λ (r : CurrentRow). r.serial) rows) → slice_get rows k ≡ Some row → IsFirst row.serial rows k
+unfolding IsDistinct
+first_apart [] k row apart got = cc
+first_apart (x ∷ xs) zero row apart got =
+    let one : x ≡ row = cc in
+    eq-eqb x.serial row.serial (ap (λ (r : CurrentRow). r.serial) one)
+first_apart (x ∷ xs) (suc k) row apart got = (each xs k apart.0 got, first_apart xs k row apart.1 got)
+  where
+    each : (ys : List CurrentRow) (j : ℕ) → AllByRecursion (λ s. nat_eq x.serial s ≡ false) (map (λ (r : CurrentRow). r.serial) ys) → slice_get ys j ≡ Some row → x.serial == row.serial ≡ false
+    each [] j all at = cc
+    each (y ∷ ys) zero all at = let one : y ≡ row = cc in ap (λ (r : CurrentRow). nat_eq x.serial r.serial) (sym one) ∙ all.0
+    each (y ∷ ys) (suc j) all at = each ys j all.1 at
 
 -- it is as the intervals of all rows give it
 pub row_of_current : (rows : List CurrentRow) (h : History) (now : ℤ) (place : ℕ) (e : Node) (row : CurrentRow) → IsOrdered h.nodes → AreCurrent rows h now → slice_get (elements h.nodes) place ≡ Some e → slice_get rows place ≡ Some row → IsRowOf h (interval_in rows) now place e row

@@ -19,4 +19,3 @@ pub mod Family
 pub mod Staying
 pub mod Housing
 pub mod Knowing
-pub mod Marking

@@ -1,42 +1,51 @@
--- What std says of the keys of a set, said of listed ranks.
-use Rattle.std.proofs.Common.{◌≡◌, refl, ◌∙◌, ap, sym, ℕ, ◌<◌, List, [], ◌∷◌, length, true, false, Option, Some, None, arith}
-use Rattle.std.specs.Prelude.{not, ◌&&◌, ◌||◌, ◌==◌, is_some, IsTrue, IsSome, IfSome, MatchOption}
-use Rattle.std.specs.Ordering.{nat_cmp, is_eq}
-use Rattle.std.specs.List.{list_any}
-use Rattle.std.specs.BTreeSet.{BTreeSet, contains, IsLowerBound, Updates}
-use Rattle.std.proofs.lemmas.Bool.Decides.{nat_tests}
-use Rattle.std.proofs.lemmas.Map.Keys.{le_from_not_gt}
+-- The first of rising ranks is the least, and all others stay.
+use Rattle.std.proofs.Common.{◌≡◌, refl, ◌∙◌, ap, sym, subst, ℕ, suc, ◌+◌, ◌<◌, List, [], ◌∷◌, Bool, true, false, inl, inr, get_or, arith}
+use Rattle.std.specs.Prelude.{not, ◌&&◌, ◌||◌, ◌==◌, ◌⊎◌}
+use Rattle.std.specs.List.Sorted.{IsStrictlyIncreasing}
+use Rattle.std.proofs.lemmas.Bool.{eqb-true, false_from_ne_true, or_cases}
 use Rattle.smil_model.specs.document.Closure.{has}
 use Rattle.smil_nodes.specs.Agenda.{IsLeastTaken}
-use Rattle.smil_due.proofs.Sets.{or_cond, and_cond}
 
-same_rank : (a b : ℕ) → is_eq (nat_cmp a b) ≡ (b == a)
-same_rank a b = grind (arith, nat_tests)
+-- what stands behind a number is above it
+all_above : (low : ℕ) (xs : List ℕ) → IsStrictlyIncreasing (low ∷ xs) → (r : ℕ) → has xs r ≡ true → low < r
+all_above low [] up r on = cc
+all_above low (x ∷ xs) up r on = by_case (or_cases (x == r) (has xs r) on) (all_above x xs rest r)
+  where
+    rest : IsStrictlyIncreasing (x ∷ xs)
+    rest k within =
+        let next : suc k + 1 ≡ suc (k + 1) = omega arith in
+        subst (λ n. get_or (x ∷ xs) k 0 < get_or (low ∷ x ∷ xs) n 0) next (up (suc k) (omega (arith, within)))
 
-listed : (keys : List ℕ) (r : ℕ) → list_any (λ k. is_eq (nat_cmp r k)) keys ≡ has keys r
-listed keys r = λ i. list_any (λ k. same_rank r k i) keys
+    first : low < x
+    first = up 0 (omega arith)
 
--- a rank is put in
-pub put_in : (old new : BTreeSet ℕ) (rank : ℕ) → Updates nat_cmp old new rank true → (r : ℕ) → has new.keys r ≡ ((r == rank) || has old.keys r)
-put_in old new rank updates r =
-    sym (listed new.keys r)
-    ∙ updates.0 r
-    ∙ or_cond (is_eq (nat_cmp rank r)) (contains nat_cmp old r)
-    ∙ (λ i. same_rank rank r i || listed old.keys r i)
+    by_case : (x == r ≡ true) ⊎ (has xs r ≡ true) → (has xs r ≡ true → x < r) → low < r
+    by_case (inl here) above = omega (arith, first, eqb-true x r here)
+    by_case (inr later) above = omega (arith, first, above later)
 
-no_keys : (keys : List ℕ) (first : Option ℕ) → first ≡ None → (0 < length keys → IsSome first) → keys ≡ []
-no_keys [] first none some = refl
-no_keys (k ∷ ks) first none some = let found : IsSome first = some (omega arith) in let never : true ≡ false = sym found ∙ ap is_some none in cc
-
--- the least rank is taken out
-pub taken_out : (old new : BTreeSet ℕ) (first : Option ℕ) → (0 < length old.keys → IsSome first) → IfSome first (λ k. IsTrue (contains nat_cmp old k)) → IfSome first (IsLowerBound nat_cmp old) → IfSome first (λ k. Updates nat_cmp old new k false) → MatchOption first (old.keys ≡ []) (λ k. IsLeastTaken old.keys k new.keys)
-taken_out old new None some member least updates = no_keys old.keys None refl some
-taken_out old new (Some rank) some member least updates = record {
-  member = sym (listed old.keys rank) ∙ member;
-  least = λ r q. le_from_not_gt rank r (least r (listed old.keys r ∙ q));
-  rest = λ r.
-      sym (listed new.keys r)
-      ∙ updates.0 r
-      ∙ and_cond (is_eq (nat_cmp rank r)) (contains nat_cmp old r)
-      ∙ (λ i. not (same_rank rank r i) && listed old.keys r i);
+taken_first : (rank : ℕ) (new : List ℕ) → IsStrictlyIncreasing (rank ∷ new) → IsLeastTaken (rank ∷ new) rank new
+taken_first rank new up = record {
+  member = grind arith;
+  least = λ r on. elim (or_cases (rank == r) (has new r) on) [
+    | inl here ↦ omega (arith, eqb-true rank r here)
+    | inr later ↦ omega (arith, all_above rank new up r later)
+  ];
+  rest = λ r. others r (rank == r) refl;
 }
+  where
+    gone : has new rank ≡ false
+    gone = false_from_ne_true (has new rank) (λ on. absurd (omega (arith, all_above rank new up rank on)))
+
+    turned : (a b : ℕ) → (a == b) ≡ (b == a)
+    turned a b = grind arith
+
+    others : (r : ℕ) (t : Bool) → rank == r ≡ t → has new r ≡ (not (r == rank) && ((rank == r) || has new r))
+    others r true same =
+        ap (has new) (sym (eqb-true rank r same)) ∙ gone
+        ∙ (λ i. not ((sym same ∙ turned rank r) i) && ((rank == r) || has new r))
+    others r false apart =
+        (λ i. not ((sym apart ∙ turned rank r) i) && (sym apart i || has new r))
+
+-- the first of rising ranks is taken out
+pub taken_out : (old : List ℕ) (rank : ℕ) (new : List ℕ) → old ≡ rank ∷ new → IsStrictlyIncreasing old → IsLeastTaken old rank new
+taken_out old rank new split up = subst (λ keys. IsLeastTaken keys rank new) (sym split) (taken_first rank new (subst IsStrictlyIncreasing split up))

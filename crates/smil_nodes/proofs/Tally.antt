@@ -1,5 +1,5 @@
 -- The elements that were evaluated, each once.
-use Rattle.std.proofs.Common.{◌≡◌, refl, ◌∙◌, ap, sym, subst, ℕ, suc, ◌+◌, ◌<◌, ◌≤◌, List, [], ◌∷◌, length, Bool, true, false, get_or, arith, inl, inr}
+use Rattle.std.proofs.Common.{◌≡◌, refl, ◌∙◌, ap, sym, subst, ℕ, suc, ◌+◌, ◌<◌, ◌≤◌, List, [], ◌∷◌, ◌++◌, length, ℤ, Bool, true, false, get_or, arith, inl, inr}
 use Rattle.std.specs.Prelude.{◌==◌, ◌⊎◌, not, nat_eq}
 use Rattle.std.specs.List.{AllByRecursion, IsDistinct}
 use Rattle.std.proofs.lemmas.Bool.{eq-eqb, eqb-true, or_left, or_right, or_cases, or_parts, and_parts}
@@ -7,14 +7,17 @@ use Rattle.smil_model.specs.declared.diary.Entry.{Entry}
 use Rattle.smil_model.specs.declared.diary.LogEntry.{LogEntry}
 use Rattle.smil_model.specs.declared.document.Node.{Node}
 use Rattle.smil_model.specs.document.Closure.{has}
+use Rattle.smil_model.specs.diary.Diary.{History}
+use Rattle.std.proofs.lemmas.List.Folds.{list_any-append}
 use Rattle.smil_model.specs.reach.Reach.{reads}
 use Rattle.smil_laws.specs.Touched.{in_reaches}
 use Rattle.smil_laws.proofs.TouchedReached.{reaches_hold}
 use Rattle.smil_graph.specs.Graph.{IsGraphOrder}
 use Rattle.smil_rounds.specs.declared.current_rows.CurrentRow.{CurrentRow}
 use Rattle.smil_rounds.specs.Current.{interval_in}
+use Rattle.smil_rounds.specs.Round.{IsRowEvaluated}
 use Rattle.smil_nodes.specs.Noted.{is_noted_by}
-use Rattle.smil_nodes.specs.Work.{HasSame, IsBelow, IsCounted, IsDue, is_later_reader}
+use Rattle.smil_nodes.specs.Work.{AreChanged, HasSame, IsBelow, IsCounted, IsDue, is_later_reader}
 use Rattle.smil_nodes.specs.Agenda.{IsLeastTaken}
 use Rattle.smil_nodes.proofs.Ranked.{element_of, one_place}
 use Rattle.smil_nodes.proofs.Apart.{is_reader}
@@ -23,14 +26,15 @@ each_has : (P : ℕ → Type 0) (xs : List ℕ) → ((x : ℕ) → has xs x ≡ 
 each_has P [] f = tt
 each_has P (x ∷ xs) f = (f x (or_left _ _ (eq-eqb x x refl)), each_has P xs (λ y q. f y (or_right _ _ q)))
 
-module _ (nodes : List Node) (log : List LogEntry) (entries : List Entry) (order : List ℕ) (first : List CurrentRow) (start : ℕ) where
+module _ (h : History) (moment : ℤ) (nodes : List Node) (log : List LogEntry) (entries : List Entry) (order : List ℕ) (first : List CurrentRow) (start : ℕ) where
   -- nothing is evaluated yet
   pub none_counted : (listed : ℕ → Bool) → ((r : ℕ) → listed r ≡ true → r < length order) → ((r : ℕ) → listed r ≡ true → in_reaches nodes log entries (get_or order r 0) ≡ true)
-      → ((r : ℕ) → listed r ≡ true → is_noted_by nodes log entries (get_or order r 0) ≡ true) → IsCounted nodes log entries order listed first first start start
+      → ((r : ℕ) → listed r ≡ true → is_noted_by nodes log entries (get_or order r 0) ≡ true) → IsCounted h moment nodes log entries order listed first first start start
   unfolding IsDistinct
   none_counted listed within reached noted = record {
     next = 0;
     taken = [];
+    made = refl;
     steps_are = omega arith;
     distinct = tt;
     reached = λ s q. cc;
@@ -42,7 +46,7 @@ module _ (nodes : List Node) (log : List LogEntry) (entries : List Entry) (order
     listed_due = λ r on. inl (noted r on);
   }
 
-  module _ (old : List ℕ) (before after : List CurrentRow) (steps rank who : ℕ) (is : IsGraphOrder nodes order) (apart : IsDistinct nat_eq order) (mid : List ℕ) (lt : rank < length order) (at : get_or order rank 0 ≡ who) (off : IsLeastTaken old rank mid) (others : (s : ℕ) → who == s ≡ false → interval_in after s ≡ interval_in before s) (so_far : IsCounted nodes log entries order (has old) first before start steps) where
+  module _ (old : List ℕ) (before after : List CurrentRow) (steps rank who : ℕ) (is : IsGraphOrder nodes order) (apart : IsDistinct nat_eq order) (mid : List ℕ) (lt : rank < length order) (at : get_or order rank 0 ≡ who) (off : IsLeastTaken old rank mid) (others : (s : ℕ) → who == s ≡ false → interval_in after s ≡ interval_in before s) (so_far : IsCounted h moment nodes log entries order (has old) first before start steps) where
     -- a rank is listed that was, or that of a later reader where the interval changed
     abbrev IsLaterListed : ℕ → Type 0
     IsLaterListed r = (has mid r ≡ true) ⊎ ((is_later_reader nodes order rank who r ≡ true) × (HasSame who before after → ⊥))
@@ -91,14 +95,34 @@ module _ (nodes : List Node) (log : List LogEntry) (entries : List Entry) (order
         untaken false q = refl
         untaken true q = sym (eq-eqb who who refl) ∙ not_taken who q (nat_eq who who) refl
 
+    -- what has its first interval had it until now
+    same_before : (s : ℕ) → interval_in after s ≡ interval_in first s → interval_in before s ≡ interval_in first s
+    same_before s same = by_test (who == s) refl
+      where
+        by_test : (t : Bool) → who == s ≡ t → interval_in before s ≡ interval_in first s
+        by_test true e = subst (λ y. interval_in before y ≡ interval_in first y) (eqb-true who s e) first_until
+        by_test false e = sym (others s e) ∙ same
+
+    -- what was told has another interval still
+    pub told_still : (told changed : List ℕ) → AreChanged told changed (interval_in first) (interval_in before) → AreChanged told changed (interval_in first) (interval_in after)
+    told_still told changed are s on = elim (are s on) [ inl was ↦ inl was | inr differs ↦ inr (λ same. differs (same_before s same)) ]
+
+    -- and so has what is told besides
+    pub told_more : (told changed new : List ℕ) → AreChanged told changed (interval_in first) (interval_in before) → (HasSame who before after → ⊥) → new ≡ changed ++ who ∷ [] → AreChanged told new (interval_in first) (interval_in after)
+    told_more told changed new are changes pushed s on =
+        by_case (or_cases (has changed s) (has (who ∷ []) s) (sym (list_any-append (λ y. y == s) changed (who ∷ [])) ∙ sym (ap (λ xs. has xs s) pushed) ∙ on))
+      where
+        other : who ≡ s → interval_in after s ≡ interval_in first s → ⊥
+        other one same = changes (ap (interval_in after) one ∙ same ∙ ap (interval_in first) (sym one) ∙ sym first_until)
+
+        by_case : (has changed s ≡ true) ⊎ (has (who ∷ []) s ≡ true) → (has told s ≡ true) ⊎ (interval_in after s ≡ interval_in first s → ⊥)
+        by_case (inl was) = told_still told changed are s was
+        by_case (inr last) = elim (or_cases (who == s) false last) [ inl here ↦ inr (other (eqb-true who s here)) | inr never ↦ absurd (cc) ]
+
     -- what was due is so still
     still_due : (s : ℕ) → IsDue nodes log entries (interval_in first) (interval_in before) s → IsDue nodes log entries (interval_in first) (interval_in after) s
     still_due s (inl noted) = inl noted
-    still_due s (inr (x, reading, differs)) = inr (x, reading, λ same. differs (by_test (who == x) refl same))
-      where
-        by_test : (t : Bool) → who == x ≡ t → interval_in after x ≡ interval_in first x → interval_in before x ≡ interval_in first x
-        by_test true e same = subst (λ y. interval_in before y ≡ interval_in first y) (eqb-true who x e) first_until
-        by_test false e same = sym (others x e) ∙ same
+    still_due s (inr (x, reading, differs)) = inr (x, reading, λ same. differs (same_before x same))
 
     -- only ranks above it are listed from now on
     pub rank_passed : (new : ℕ → Bool) → ((r : ℕ) → new r ≡ true → IsLaterListed r) → (r : ℕ) → r ≤ rank → new r ≡ false
@@ -109,11 +133,12 @@ module _ (nodes : List Node) (log : List LogEntry) (entries : List Entry) (order
         by_test true q = let above = (listed_above r (from r q)).0 in absurd (omega (arith, above, le))
 
     -- one more is evaluated
-    pub one_counted : (new : ℕ → Bool) → ((r : ℕ) → new r ≡ true → IsLaterListed r) → (now : ℕ) → now ≡ steps + 1 → IsCounted nodes log entries order new first after start now
+    pub one_counted : (new : ℕ → Bool) → ((r : ℕ) → new r ≡ true → IsLaterListed r) → (now : ℕ) → now ≡ steps + 1 → IsRowEvaluated h moment who before after → IsCounted h moment nodes log entries order new first after start now
     unfolding IsDistinct
-    one_counted new from now counts = record {
+    one_counted new from now counts evaluated = record {
       next = suc rank;
       taken = who ∷ so_far.taken;
+      made = (before, so_far.made, evaluated);
       steps_are = let before_are : steps ≡ start + length so_far.taken = so_far.steps_are in omega (arith, counts, before_are);
       distinct = (each_has (λ s. nat_eq who s ≡ false) so_far.taken (λ s q. not_taken s q (nat_eq who s) refl), so_far.distinct);
       reached = λ s q. is_reached s (or_cases (who == s) (has so_far.taken s) q);

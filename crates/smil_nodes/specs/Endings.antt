@@ -1,5 +1,6 @@
 -- The ends of the time children of each element, and where the ending of each stands.
-use Rattle.std.specs.Prelude.{◌≡◌, ℕ, zero, suc, ◌<◌, List, [], ◌∷◌, length, map, slice_get, slice_index_or, Bool, Option, Some, None}
+use Rattle.std.specs.Prelude.{◌≡◌, ◌==◌, ℕ, zero, suc, ◌<◌, List, [], ◌∷◌, length, map, slice_get, slice_index_or, Bool, Option, Some, None}
+use Rattle.std.specs.List.{position}
 use Rattle.std.proofs.Common.{subst, sym}
 use Rattle.smil_model.specs.declared.diary.Entry.{Entry}
 use Rattle.smil_model.specs.declared.document.Node.{Node}
@@ -138,6 +139,12 @@ pub record KnowsEnds
       (place : ℕ) (e : Node) → slice_get (elements h.nodes) place ≡ Some e → e.serial ≡ who
       → slice_index_or kept.ends place []
       ≡ map (child_end h (interval_in rows) e) (time_children h.nodes who)
+
+-- and its row has this index
+pub record KnowsEndsAt
+    (rows : List CurrentRow) (kept : KeptEnds) (h : History) (who index : ℕ) : Type 0 where
+  pub known : KnowsEnds rows kept h who
+  pub here : position (λ (r : CurrentRow). r.serial == who) rows ≡ Some index
 
 -- the ending of one element was put, by its present interval
 pub record IsEnded (h : History) (who : ℕ) (rows : List CurrentRow)

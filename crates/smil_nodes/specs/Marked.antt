@@ -7,7 +7,7 @@ use Rattle.smil_rounds.specs.Current.{AreCurrent, interval_in, stay_current}
 use Rattle.smil_nodes.specs.declared.live.LiveTable.{LiveTable}
 use Rattle.smil_nodes.specs.declared.undo.Note.{Note}
 use Rattle.smil_nodes.specs.Endings.{KeptEnds, AreKnown, anyone, stay_known}
-use Rattle.smil_nodes.specs.Undo.{ends_back, rows_back}
+use Rattle.smil_nodes.specs.Undo.{Kept, all_back}
 
 -- the rows are current, and all ends are right by their intervals
 pub record IsUpToDate
@@ -23,15 +23,18 @@ stay_up_to_date rows kept h k m n same is = record {
   ends_are = stay_known h k (interval_in rows) anyone kept same.nodes same.diary is.ends_are;
 }
 
--- what `back` gives where a mark stands
+-- what `back` gives
+abbrev pub back_from : List Note → List CurrentRow → KeptEnds → Kept
+back_from notes rows ends = all_back (record { rows = rows; ends = ends }) notes
+
+-- it is right where a mark stands
 abbrev pub IsMarked : Bool → List Note → List CurrentRow → KeptEnds → History → ℤ → Type 0
-IsMarked false notes rows kept h now = Unit {0}
-IsMarked true notes rows kept h now =
-    IsUpToDate (rows_back rows notes) (ends_back rows kept notes) h now
+IsMarked false notes rows ends h now = Unit {0}
+IsMarked true notes rows ends h now =
+    let kept = back_from notes rows ends in IsUpToDate kept.rows kept.ends h now
 
 -- where a mark stands, `back` gives the same as before
 abbrev pub GoesBack : LiveTable → LiveTable → Type 0
 GoesBack old new =
     old.has_mark ≡ true
-    → (rows_back new.schedule new.undo ≡ rows_back old.schedule old.undo)
-    × (ends_back new.schedule new.endings new.undo ≡ ends_back old.schedule old.endings old.undo)
+    → back_from new.undo new.schedule new.endings ≡ back_from old.undo old.schedule old.endings

@@ -1,15 +1,25 @@
 -- A schedule: each element in document order, with its interval and what comes of it, and the slots
 -- of the keys of all that comes.
-use Rattle.std.specs.Prelude.{◌≡◌, ◌≤◌, ℤ, List, [], ◌∷◌, length, Option, option_map}
+use Rattle.std.specs.Prelude.{◌≡◌, ◌≤◌, ℕ, zero, suc, nat_eq, ℤ, List, [], ◌∷◌, length, map, Option, option_map}
+use Rattle.std.specs.List.{IsDistinct}
 use Rattle.smil_model.specs.declared.happening.Key.{Key}
+use Rattle.smil_model.specs.declared.interval.Interval.{Interval}
 use Rattle.smil_model.specs.declared.limits.TheConstants.{NODES}
 use Rattle.smil_model.specs.diary.Diary.{History}
 use Rattle.smil_model.specs.happening.Keys.{coming, first_coming}
+use Rattle.smil_element.specs.declared.comings.DueChanges.{DueChanges}
 use Rattle.smil_element.specs.declared.happening.change.DueChange.{DueChange}
 use Rattle.smil_element.specs.Parts.{coming_meant}
 use Rattle.smil_rounds.specs.declared.current_rows.CurrentRow.{CurrentRow}
 use Rattle.smil_rounds.specs.Current.{AreCurrent}
 use Rattle.smil_rounds.specs.Rows.{AreNear}
+
+-- an interval, and what comes, in the row at an index; where there is none nothing changes
+abbrev pub row_put : List CurrentRow → ℕ → Option Interval → DueChanges → List CurrentRow
+row_put [] index interval comings = []
+row_put (r ∷ rs) zero interval comings =
+    record { serial = r.serial; interval = interval; comings = comings } ∷ rs
+row_put (r ∷ rs) (suc index) interval comings = r ∷ row_put rs index interval comings
 
 -- the key of what comes
 abbrev pub slot_of : Option DueChange → Option Key
@@ -20,10 +30,12 @@ abbrev pub slots_of : List CurrentRow → List (Option Key)
 slots_of [] = []
 slots_of (r ∷ rs) = slot_of r.comings.moved ∷ (slot_of r.comings.repeat ∷ slots_of rs)
 
--- the rows have near numbers, are as few as the elements of a document, and the slots are theirs
+-- the rows have near numbers, are of different elements and as few as those of a document, and the
+-- slots are theirs
 pub record IsScheduled (rows : List CurrentRow) (slots : List (Option Key)) : Type 0 where
   pub near : AreNear rows
   pub few : length rows ≤ NODES
+  pub apart : IsDistinct nat_eq (map (λ (r : CurrentRow). r.serial) rows)
   pub slots_are : slots ≡ slots_of rows
 
 -- this comes first by the rows, where they are current

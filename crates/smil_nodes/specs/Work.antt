@@ -1,5 +1,5 @@
 -- Elements evaluated in their order, in which each has a rank; those with listed ranks are left.
-use Rattle.std.specs.Prelude.{◌≡◌, ℕ, ◌<◌, ◌≤◌, ◌+◌, zero, suc, ℤ, List, nat_lt, nat_eq, ◌==◌, Bool, true, false, ◌&&◌, ◌||◌, ◌⊎◌, Option, Some, slice_get, slice_index, length, is_some, if◌then◌else◌}
+use Rattle.std.specs.Prelude.{◌≡◌, ℕ, ◌<◌, ◌≤◌, ◌+◌, zero, suc, ℤ, List, [], ◌∷◌, nat_lt, nat_eq, ◌==◌, Bool, true, false, ◌&&◌, ◌||◌, ◌⊎◌, Option, Some, slice_get, slice_index, length, is_some, if◌then◌else◌}
 use Rattle.std.specs.List.{IsDistinct, list_any, position}
 use Rattle.smil_model.specs.declared.diary.Entry.{Entry}
 use Rattle.smil_model.specs.declared.diary.LogEntry.{LogEntry}
@@ -13,7 +13,7 @@ use Rattle.smil_laws.specs.Touched.{in_reaches}
 use Rattle.smil_graph.specs.Graph.{OrderedNodes, readers_of}
 use Rattle.smil_rounds.specs.declared.current_rows.CurrentRow.{CurrentRow}
 use Rattle.smil_rounds.specs.Current.{interval_in}
-use Rattle.smil_rounds.specs.Round.{AreOfElements, IsRowOf}
+use Rattle.smil_rounds.specs.Round.{AreOfElements, IsRowEvaluated, IsRowOf}
 use Rattle.smil_nodes.specs.Noted.{is_noted_by}
 
 -- whether the element has this rank, and it is above another
@@ -73,10 +73,19 @@ IsDue nodes log entries before after s =
     (is_noted_by nodes log entries s ≡ true)
     ⊎ ((x : ℕ) × (reads nodes x s ≡ true) × (after x ≡ before x → ⊥))
 
--- as many evaluations are made as some elements that are due, of which none counts twice
-pub record AreDueOnce (nodes : List Node) (log : List LogEntry) (entries : List Entry)
-    (before after : ℕ → Option Interval) (evaluations : ℕ) : Type 0 where
+-- some elements were evaluated, one behind the other, the last one first in the list
+abbrev pub AreEvaluated : History → ℤ → List ℕ → List CurrentRow → List CurrentRow → Type 0
+AreEvaluated h now [] before after = after ≡ before
+AreEvaluated h now (who ∷ earlier) before after =
+    (rows : List CurrentRow) × AreEvaluated h now earlier before rows
+    × IsRowEvaluated h now who rows after
+
+-- the elements that were evaluated, in as many evaluations, are due, and none comes twice
+pub record AreDueOnce (h : History) (now : ℤ) (nodes : List Node) (log : List LogEntry)
+    (entries : List Entry) (old new : List CurrentRow) (before after : ℕ → Option Interval)
+    (evaluations : ℕ) : Type 0 where
   pub evaluated : List ℕ
+  pub made : AreEvaluated h now evaluated old new
   pub as_many : evaluations ≡ length evaluated
   pub distinct : IsDistinct nat_eq evaluated
   pub are_elements :
@@ -85,11 +94,12 @@ pub record AreDueOnce (nodes : List Node) (log : List LogEntry) (entries : List 
 
 -- each step is of another element that was taken; those that were, and those that are listed,
 -- are due and in the reaches of entries; the listed ranks are above those of the former
-pub record IsCounted (nodes : List Node) (log : List LogEntry) (entries : List Entry)
-    (order : List ℕ) (listed : ℕ → Bool) (before rows : List CurrentRow) (start steps : ℕ)
-    : Type 0 where
+pub record IsCounted (h : History) (now : ℤ) (nodes : List Node) (log : List LogEntry)
+    (entries : List Entry) (order : List ℕ) (listed : ℕ → Bool) (before rows : List CurrentRow)
+    (start steps : ℕ) : Type 0 where
   pub next : ℕ
   pub taken : List ℕ
+  pub made : AreEvaluated h now taken before rows
   pub steps_are : steps ≡ start + length taken
   pub distinct : IsDistinct nat_eq taken
   pub reached : (s : ℕ) → has taken s ≡ true → in_reaches nodes log entries s ≡ true
@@ -105,6 +115,11 @@ pub record IsCounted (nodes : List Node) (log : List LogEntry) (entries : List E
   pub listed_due :
       (rank : ℕ) → listed rank ≡ true
       → IsDue nodes log entries (interval_in before) (interval_in rows) (slice_index order rank)
+
+-- what is told besides what was has another interval than before
+abbrev pub AreChanged : List ℕ → List ℕ → (ℕ → Option Interval) → (ℕ → Option Interval) → Type 0
+AreChanged old new before after =
+    (s : ℕ) → has new s ≡ true → (has old s ≡ true) ⊎ (after s ≡ before s → ⊥)
 
 -- how far the least listed rank is below a number of ranks, from a rank on; 0 where none is listed
 abbrev pub gap_from : (ℕ → Bool) → ℕ → ℕ → ℕ

@@ -34,6 +34,11 @@ impl Contender for Slot {
             key: earlier(self.key, behind.key),
         }
     }
+
+    // Whether the two have the same key, or none.
+    fn is_same(self, other: Slot) -> bool {
+        self.key == other.key
+    }
 }
 
 /// A fixed number of slots, each with a key or none, under a tournament that the least key wins;

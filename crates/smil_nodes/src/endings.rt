@@ -11,6 +11,7 @@ ghost use Rattle.smil_rounds.specs.Round.{AreOfElements};
 ghost use Rattle.smil_nodes.specs.Endings.{AreHomes, HasHome, ending_in, home_at, named_ends, put_ending};
 
 use super::schedule::Schedule;
+use smil_duration::takes_implicit;
 use smil_element::{Ending, is_named};
 use smil_endsync::{Ends, by_endsync};
 use smil_instance_rows::copy_each;
@@ -197,9 +198,18 @@ fn ends_of(alloc: Global, tree: &Tree, schedule: &Schedule) -> Result<Vec<Ends>,
     tree.valid();
     let mut ends = Vec::new(alloc);
     for row in schedule.rows() {
-        ends.push(Ends::of(alloc, children_of(alloc, tree, row.serial)?)?)?;
+        let children = children_of(alloc, tree, row.serial)?;
+        ends.push(Ends::of(alloc, children, is_summed(tree, row.serial))?)?;
     }
     Ok(ends)
+}
+
+// Whether the duration of an element follows from the ends of all its time children.
+fn is_summed(tree: &Tree, who: u32) -> bool
+    requires { has_element tree.now.nodes who ≡ true }
+{
+    tree.valid();
+    matches!(tree.kind(who), Kind::Par | Kind::Excl) && takes_implicit(tree.attrs(who))
 }
 
 // The ends of the time children of an element, none known.

@@ -2,7 +2,6 @@
 //! comes of them, may have changed.
 #![tactic(auto)]
 
-mod agenda;
 mod due_tree;
 mod endings;
 pub mod live;

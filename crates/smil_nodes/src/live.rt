@@ -1,7 +1,6 @@
 //! The live table: only what may have changed is evaluated after a happening.
 
-ghost use Rattle.std.specs.Prelude.{◌≡◌, ◌↔◌, ◌==◌, ◌≤◌, ◌+◌, ◌-◌, ℕ, Some, true, false, drop, length, slice_set, OnOk, IfOk, IfSome};
-ghost use Rattle.std.specs.List.{position};
+ghost use Rattle.std.specs.Prelude.{◌≡◌, ◌↔◌, ◌<◌, ◌≤◌, ◌+◌, ◌-◌, ℕ, Some, true, false, drop, length, slice_get, OnOk, IfOk, IfSome};
 ghost use Rattle.smil_model.specs.declared.document.Node.{Node as AnyNode};
 ghost use Rattle.smil_model.specs.document.Document.{elements, node_at};
 ghost use Rattle.smil_model.specs.document.Closure.{has};
@@ -11,16 +10,14 @@ ghost use Rattle.smil_model.specs.interval.Current.{current_interval};
 ghost use Rattle.smil_model.specs.reach.Bounds.{reaches};
 ghost use Rattle.smil_laws.specs.Near.{IsIntervalNear};
 ghost use Rattle.smil_past.specs.Past.{IsPresent, front, history_of};
-ghost use Rattle.smil_rounds.specs.declared.current_rows.CurrentRow.{CurrentRow as AnyRow};
 ghost use Rattle.smil_cells.specs.CellsState.{fresh};
 ghost use Rattle.smil_rounds.specs.Round.{AreOfElements, IsRowEvaluated};
 ghost use Rattle.smil_rounds.specs.Current.{interval_in};
-ghost use Rattle.smil_nodes.specs.Endings.{AreKnown, IsEnded, KnowsEnds, nobody, put_ending};
+ghost use Rattle.smil_nodes.specs.Endings.{AreKnown, IsEnded, KnowsEnds, ending_in, nobody, put_ending};
 ghost use Rattle.smil_nodes.specs.Marked.{GoesBack, IsUpToDate};
-ghost use Rattle.smil_nodes.specs.Undo.{ending_back, row_back};
-ghost use Rattle.smil_nodes.specs.Work.{AreDueOnce, HasSame};
+ghost use Rattle.smil_nodes.specs.Schedule.{row_put};
+ghost use Rattle.smil_nodes.specs.Work.{AreChanged, AreDueOnce, HasSame};
 
-use super::agenda::Agenda;
 use super::endings::Endings;
 use super::readers::put_readers;
 use super::schedule::Schedule;
@@ -28,11 +25,11 @@ use super::sources::Sources;
 use super::touched::{Network, note_touched};
 use super::undo::{Note, Undo};
 use smil_cells::{Cells, Since, Table};
-use smil_element::{DueChange, Ending, Intervals, Present, Room, ending_of};
-use smil_interval::is_same_interval;
-use smil_model::{Duplicate, Interval, Serials, Steps};
+use smil_element::{DueChange, Ending, Intervals, Present, Room, ending_of, is_same_ending};
+use smil_interval::{Steps, is_same_interval};
+use smil_model::{Duplicate, Interval, PlaceSet, Serials};
 use smil_past::Past;
-use smil_rounds::current_rows::{CurrentRow, IndexedElement, row_of};
+use smil_rounds::current_rows::{CurrentRow, IndexedElement, is_same_row, row_of};
 use std::alloc::{AllocError, Global};
 use std::sync::ledger::Ledger;
 
@@ -47,7 +44,7 @@ pub struct LiveTable {
     /// The ends of the time children of each element, by the intervals of the schedule.
     endings: Endings,
     /// The ranks, in the order of the document's graph, of the elements still to be evaluated.
-    agenda: Agenda,
+    agenda: PlaceSet,
     /// Where a mark stands, the elements that changed since, as they were there.
     undo: Undo,
     has_mark: bool,
@@ -91,9 +88,9 @@ impl Table for LiveTable {
         let schedule = Schedule::of(alloc, past.tree())?;
         let mut table = LiveTable {
             endings: Endings::of(alloc, past.tree(), &schedule)?,
+            undo: Undo::of(alloc, schedule.rows().len())?,
             schedule,
-            agenda: Agenda::new(alloc),
-            undo: Undo::new(alloc),
+            agenda: PlaceSet::new(alloc),
             has_mark: false,
             room: Room::new(alloc),
             alloc,
@@ -102,13 +99,62 @@ impl Table for LiveTable {
         Ok(table)
     }
 
+    // Besides what the trait says: no element is told besides whose interval is as it was. The
+    // elements that are evaluated, none of them twice and each in one step, are due: the entries
+    // have it listed, or it reads one whose interval is another behind them than before.
     fn refresh<L: Ledger>(
         &mut self,
         since: &Since<'_>,
         changed: &mut Serials,
         steps: &mut Steps<L>,
-    ) -> Result<(), AllocError> {
-        self.evaluate_due(since, changed, steps)
+    ) -> Result<(), AllocError>
+        requires moment { IsPresent since.now.past.now since.now.moment }
+        requires within { since.now.from ≤ length since.now.past.now.diary }
+        requires before { IsUpToDate self.old.schedule self.old.endings
+            (front since.now.past.now since.now.from) since.now.moment }
+        ensures current { OnOk result (IsUpToDate self.new.schedule self.new.endings
+            (history_of since.now.past.now) since.now.moment) }
+        ensures changed { OnOk result ((s : ℕ) → has changed.new s ≡ false
+            → current_interval (history_of since.now.past.now) since.now.moment s
+            ≡ current_interval (front since.now.past.now since.now.from) since.now.moment s) }
+        ensures more { OnOk result ((s : ℕ) → has changed.old s ≡ true → has changed.new s ≡ true) }
+        ensures back { GoesBack self.old self.new }
+        ensures has_mark { self.new.has_mark ≡ self.old.has_mark }
+        ensures counted { steps.old ≤ steps.new }
+        ensures told { OnOk result (AreChanged changed.old changed.new
+            (current_interval (front since.now.past.now since.now.from) since.now.moment)
+            (current_interval (history_of since.now.past.now) since.now.moment)) }
+        ensures due { OnOk result (AreDueOnce (history_of since.now.past.now) since.now.moment
+            since.now.past.now.document.nodes since.now.past.now.log
+            (drop since.now.from since.now.past.now.diary) self.old.schedule self.new.schedule
+            (current_interval (front since.now.past.now since.now.from) since.now.moment)
+            (current_interval (history_of since.now.past.now) since.now.moment)
+            (steps.new - steps.old)) }
+        ensures most { OnOk result (steps.new - steps.old
+            ≤ reaches since.now.past.now.document.nodes since.now.past.now.log
+            (drop since.now.from since.now.past.now.diary)) }
+        ensures least { OnOk result (fresh since.now.past.now.document.nodes
+            (current_interval (front since.now.past.now since.now.from) since.now.moment)
+            (current_interval (history_of since.now.past.now) since.now.moment)
+            ≤ steps.new - steps.old) }
+    {
+        let past = since.past;
+        let moment = since.moment;
+        past.possible();
+        let graph = past.graph();
+        let order = graph.order();
+        self.agenda.clear();
+        let network = Network { past, graph };
+        note_touched(self.alloc, &network, since.from, &mut self.agenda)?;
+        while let Some(rank) = self.agenda.take_first() {
+            let who = order[rank];
+            let present = Present { past, who, moment };
+            if self.evaluate(&present, steps)? {
+                changed.push(who)?;
+                put_readers(graph, who, rank, &mut self.agenda)?;
+            }
+        }
+        Ok(())
     }
 
     fn interval(&self, who: u32) -> Option<Interval> {
@@ -123,8 +169,8 @@ impl Table for LiveTable {
         Ok(LiveTable {
             schedule: self.schedule.copy()?,
             endings: self.endings.copy()?,
-            agenda: Agenda::new(self.alloc),
-            undo: Undo::new(self.alloc),
+            agenda: PlaceSet::new(self.alloc),
+            undo: Undo::of(self.alloc, self.schedule.rows().len())?,
             has_mark: false,
             room: Room::new(self.alloc),
             alloc: self.alloc,
@@ -183,60 +229,6 @@ impl LiveTable {
         Ok(())
     }
 
-    // Does what the trait says of `refresh`, in as many steps as some elements that are due, none of
-    // which counts twice: the entries have it listed, or it reads one whose interval is another
-    // behind them than before.
-    fn evaluate_due<L: Ledger>(
-        &mut self,
-        since: &Since<'_>,
-        changed: &mut Serials,
-        steps: &mut Steps<L>,
-    ) -> Result<(), AllocError>
-        requires moment { IsPresent since.now.past.now since.now.moment }
-        requires within { since.now.from ≤ length since.now.past.now.diary }
-        requires before { IsUpToDate self.old.schedule self.old.endings
-            (front since.now.past.now since.now.from) since.now.moment }
-        ensures current { OnOk result (IsUpToDate self.new.schedule self.new.endings
-            (history_of since.now.past.now) since.now.moment) }
-        ensures changed { OnOk result ((s : ℕ) → has changed.new s ≡ false
-            → current_interval (history_of since.now.past.now) since.now.moment s
-            ≡ current_interval (front since.now.past.now since.now.from) since.now.moment s) }
-        ensures more { OnOk result ((s : ℕ) → has changed.old s ≡ true → has changed.new s ≡ true) }
-        ensures back { GoesBack self.old self.new }
-        ensures has_mark { self.new.has_mark ≡ self.old.has_mark }
-        ensures counted { steps.old ≤ steps.new }
-        ensures due { OnOk result (AreDueOnce since.now.past.now.document.nodes
-            since.now.past.now.log (drop since.now.from since.now.past.now.diary)
-            (current_interval (front since.now.past.now since.now.from) since.now.moment)
-            (current_interval (history_of since.now.past.now) since.now.moment)
-            (steps.new - steps.old)) }
-        ensures most { OnOk result (steps.new - steps.old
-            ≤ reaches since.now.past.now.document.nodes since.now.past.now.log
-            (drop since.now.from since.now.past.now.diary)) }
-        ensures least { OnOk result (fresh since.now.past.now.document.nodes
-            (current_interval (front since.now.past.now since.now.from) since.now.moment)
-            (current_interval (history_of since.now.past.now) since.now.moment)
-            ≤ steps.new - steps.old) }
-    {
-        let past = since.past;
-        let moment = since.moment;
-        past.possible();
-        let graph = past.graph();
-        let order = graph.order();
-        self.agenda.clear();
-        let network = Network { past, graph };
-        note_touched(self.alloc, &network, since.from, &mut self.agenda)?;
-        while let Some(rank) = self.agenda.take_first() {
-            let who = order[rank];
-            let present = Present { past, who, moment };
-            if self.evaluate(&present, steps)? {
-                changed.push(who)?;
-                put_readers(graph, who, rank, &mut self.agenda)?;
-            }
-        }
-        Ok(())
-    }
-
     // Evaluates an element, where the ends of its time children are right if its duration is
     // implicit. The answer is whether its interval changes.
     fn evaluate<L: Ledger>(
@@ -272,51 +264,68 @@ impl LiveTable {
         let sources = Sources {
             schedule: &self.schedule,
             endings: &self.endings,
+            index,
         };
         let element = IndexedElement {
             present: *present,
             index,
         };
         let row = row_of(&element, &sources, &mut self.room, steps)?;
-        let before = self.schedule.interval(who);
+        let before = self.schedule.row(index).interval;
         self.replace(index, row, ending_of(present.past, who, row.interval))?;
         Ok(!is_same_interval(before, row.interval))
     }
 
-    // Puts a row in the place of the one that its element has, and the ending of the element; what
-    // was there is noted where a mark stands.
+    // Puts the interval of a row, and what comes by it, in the row at an index, and the ending of
+    // its element; where a mark stands, what was there is noted. Nothing is done where all of that
+    // is there already.
     fn replace(&mut self, index: usize, row: CurrentRow, ending: Ending) -> Result<(), AllocError>
-        requires index { position (λ (r : AnyRow). r.serial == row.serial) self.old.schedule
-            ≡ Some index }
+        requires index { index < length self.old.schedule }
         requires near { IfSome row.interval IsIntervalNear }
-        ensures put { OnOk result (self.new.schedule ≡ slice_set self.old.schedule index row) }
+        ensures put { OnOk result (self.new.schedule
+            ≡ row_put self.old.schedule index row.interval row.comings) }
         ensures ended { OnOk result (self.new.endings
             ≡ put_ending self.old.endings index ending) }
         ensures back { GoesBack self.old self.new }
         ensures agenda { self.new.agenda ≡ self.old.agenda }
         ensures has_mark { self.new.has_mark ≡ self.old.has_mark }
     {
+        if self.is_there(index, &row, ending) {
+            return Ok(());
+        }
         if self.has_mark {
+            let before = self.schedule.row(index);
             self.undo.note(Note {
-                row: self.schedule.row(index),
+                index,
+                interval: before.interval,
+                comings: before.comings,
                 ending: self.endings.ending(index),
             })?;
         }
-        self.schedule.put(index, row);
+        self.schedule.put(index, row.interval, row.comings);
         self.endings.put(index, ending);
         Ok(())
     }
+
+    // Whether a row stands at an index, and its element has this ending.
+    fn is_there(&self, index: usize, row: &CurrentRow, ending: Ending) -> bool
+        requires { index < length self.now.schedule }
+        ensures { result ≡ true → (slice_get self.now.schedule index ≡ Some row.now)
+            × (ending ≡ ending_in self.now.endings index) }
+    {
+        let before = self.schedule.row(index);
+        is_same_row(&before, row) && is_same_ending(self.endings.ending(index), ending)
+    }
 }
 
-// Puts back the row and the ending of an element; where it has no row nothing changes.
+// Puts back what was noted of an element; where there is no row with its index nothing changes.
 fn put_back(schedule: &mut Schedule, endings: &mut Endings, noted: Note)
-    requires { IfSome noted.row.interval IsIntervalNear }
-    ensures rows { schedule.new ≡ row_back schedule.old noted.row }
-    ensures ends { endings.new ≡ ending_back schedule.old endings.old noted }
+    requires { IfSome noted.interval IsIntervalNear }
+    ensures rows { schedule.new ≡ row_put schedule.old noted.index noted.interval noted.comings }
+    ensures ends { endings.new ≡ put_ending endings.old noted.index noted.ending }
 {
-    let Some(index) = schedule.index_of(noted.row.serial) else {
-        return;
-    };
-    schedule.put(index, noted.row);
-    endings.put(index, noted.ending);
+    if noted.index < schedule.rows().len() {
+        schedule.put(noted.index, noted.interval, noted.comings);
+    }
+    endings.put(noted.index, noted.ending);
 }

@@ -3,8 +3,8 @@
 ghost use Rattle.std.specs.Prelude.{OnOk};
 ghost use Rattle.smil_nodes.specs.Work.{ListsAbove, ListsReaders};
 
-use super::agenda::Agenda;
 use smil_graph::Graph;
+use smil_model::PlaceSet;
 use std::alloc::AllocError;
 
 /// Lists the ranks of the elements that read an element, where they are above its own. Refused
@@ -13,7 +13,7 @@ pub fn put_readers(
     graph: &Graph,
     who: u32,
     rank: usize,
-    agenda: &mut Agenda,
+    agenda: &mut PlaceSet,
 ) -> Result<(), AllocError>
     ensures { OnOk result (ListsReaders graph.now rank who agenda.old agenda.new) }
 {
@@ -24,7 +24,7 @@ pub fn put_readers(
 }
 
 // Lists the rank of an element, where it is above another.
-fn put_above(graph: &Graph, who: u32, rank: usize, agenda: &mut Agenda) -> Result<(), AllocError>
+fn put_above(graph: &Graph, who: u32, rank: usize, agenda: &mut PlaceSet) -> Result<(), AllocError>
     ensures { OnOk result (ListsAbove graph.now rank who agenda.old agenda.new) }
 {
     match graph.place_in_order(who) {

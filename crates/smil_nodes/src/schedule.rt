@@ -1,15 +1,15 @@
 //! The elements with their intervals, what comes of each, and what comes first.
 
-ghost use Rattle.std.specs.Prelude.{◌≡◌, ◌==◌, ◌<◌, Some, map, length, slice_get, slice_set, IfOk, IfSome};
+ghost use Rattle.std.specs.Prelude.{◌≡◌, ◌==◌, ◌<◌, Some, map, length, slice_get, IfOk, IfSome};
 ghost use Rattle.std.specs.List.{position};
 ghost use Rattle.smil_model.specs.document.Document.{elements};
 ghost use Rattle.smil_laws.specs.Near.{IsIntervalNear};
 ghost use Rattle.smil_rounds.specs.declared.current_rows.CurrentRow.{CurrentRow as AnyRow};
 ghost use Rattle.smil_rounds.specs.Rows.{empty_row};
-ghost use Rattle.smil_nodes.specs.Schedule.{ComesFirst, slot_of};
+ghost use Rattle.smil_nodes.specs.Schedule.{ComesFirst, row_put, slot_of};
 
 use super::due_tree::DueTree;
-use smil_element::{DueChange, Intervals};
+use smil_element::{DueChange, DueChanges, Intervals};
 use smil_model::{Duplicate, Interval, Key};
 use smil_rounds::current_rows::{CurrentRow, CurrentRows};
 use smil_tree::Tree;
@@ -101,16 +101,21 @@ impl Schedule {
         self.known.rows()[index]
     }
 
-    /// Puts a row in the place of the one that its element has. It takes no memory, and log n steps
-    /// for n elements.
-    pub fn put(&mut self, index: usize, row: CurrentRow)
-        requires index { position (λ (r : AnyRow). r.serial == row.serial) self.old ≡ Some index }
-        requires near { IfSome row.interval IsIntervalNear }
-        ensures { self.new ≡ slice_set self.old index row }
+    /// Puts an interval, and what comes, in the row at an index. It takes no memory, and log n steps
+    /// at most for n elements.
+    pub fn put(&mut self, index: usize, interval: Option<Interval>, comings: DueChanges)
+        requires index { index < length self.old }
+        requires near { IfSome interval IsIntervalNear }
+        ensures { self.new ≡ row_put self.old index interval comings }
     {
+        let row = CurrentRow {
+            serial: self.row(index).serial,
+            interval,
+            comings,
+        };
         self.known.put(index, row);
-        self.due.set(2 * index, key_of(row.comings.moved));
-        self.due.set(2 * index + 1, key_of(row.comings.repeat));
+        self.due.set(2 * index, key_of(comings.moved));
+        self.due.set(2 * index + 1, key_of(comings.repeat));
     }
 
     /// What comes first by the rows; where they are current, None exactly where nothing comes. It

@@ -8,11 +8,14 @@ use smil_element::{Container, Containers, Intervals};
 use smil_model::{ChildEnd, Interval, Time};
 use std::alloc::AllocError;
 
-/// The intervals of the elements, and the ends of the time children of each.
+/// The intervals of the elements, and the ends of the time children of each, for the evaluation of
+/// one element.
 #[derive(Drop)]
 pub struct Sources<'a> {
     pub schedule: &'a Schedule,
     pub endings: &'a Endings,
+    /// The index of the row of the element that is evaluated.
+    pub index: usize,
 }
 
 impl<'a> Intervals for Sources<'a> {
@@ -24,9 +27,10 @@ impl<'a> Intervals for Sources<'a> {
 }
 
 impl<'a> Containers for Sources<'a> {
-    ghost use Rattle.smil_nodes.specs.Endings.{KnowsEnds};
+    ghost use Rattle.smil_nodes.specs.Endings.{KnowsEndsAt};
 
-    ghost knows_ends = { λ read h who. KnowsEnds read.schedule.now read.endings.now h who };
+    ghost knows_ends = { λ read h who. KnowsEndsAt read.schedule.now read.endings.now h who
+        read.index };
 
     fn implicit(
         &self,
@@ -35,10 +39,10 @@ impl<'a> Containers for Sources<'a> {
     ) -> Result<Time, AllocError> {
         let who = container.who;
         container.past.possible();
-        let index = self.schedule.index_of(who).unwrap();
         let tree = container.past.tree();
         let kind = tree.kind(who);
         let attrs = tree.attrs(who);
+        let index = self.index;
         Ok(self.endings.implicit(index, kind, attrs, container.start))
     }
 }

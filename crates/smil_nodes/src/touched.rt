@@ -7,10 +7,9 @@ ghost use Rattle.smil_laws.specs.Touched.{is_touched_from};
 ghost use Rattle.smil_graph.specs.Graph.{IsGraphOrder};
 ghost use Rattle.smil_nodes.specs.Noted.{AreNoted, NotesEntries, NotesStep, is_self_or_reader};
 
-use super::agenda::Agenda;
 use smil_graph::Graph;
 use smil_instances::{key, subject};
-use smil_model::{Serials, Step};
+use smil_model::{PlaceSet, Serials, Step};
 use smil_past::Past;
 use smil_tree::Tree;
 use std::alloc::{AllocError, Global};
@@ -30,7 +29,7 @@ pub fn note_touched(
     alloc: Global,
     network: &Network<'_>,
     from: usize,
-    agenda: &mut Agenda,
+    agenda: &mut PlaceSet,
 ) -> Result<(), AllocError>
     requires within { from ≤ length network.now.past.now.diary }
     requires graph { network.now.graph.now.nodes ≡ network.now.past.now.document.nodes }
@@ -48,7 +47,7 @@ fn note_step(
     alloc: Global,
     network: &Network<'_>,
     step: Step,
-    agenda: &mut Agenda,
+    agenda: &mut PlaceSet,
 ) -> Result<(), AllocError>
     requires { network.now.graph.now.nodes ≡ network.now.past.now.document.nodes }
     ensures { OnOk result (NotesStep network.now.graph.now network.now.past.now.log step agenda.old
@@ -63,7 +62,12 @@ fn note_step(
 }
 
 // Lists the reach of a key.
-fn note_reach(alloc: Global, graph: &Graph, key: u8, agenda: &mut Agenda) -> Result<(), AllocError>
+fn note_reach(
+    alloc: Global,
+    graph: &Graph,
+    key: u8,
+    agenda: &mut PlaceSet,
+) -> Result<(), AllocError>
     ensures { OnOk result (AreNoted graph.now.order (has (down_key graph.now.nodes key)) agenda.old
         agenda.new) }
 {
@@ -74,7 +78,12 @@ fn note_reach(alloc: Global, graph: &Graph, key: u8, agenda: &mut Agenda) -> Res
 
 // Lists an element, what is below it, and what reads one of these; nothing for a serial of no
 // element.
-fn note_within(tree: &Tree, graph: &Graph, who: u32, agenda: &mut Agenda) -> Result<(), AllocError>
+fn note_within(
+    tree: &Tree,
+    graph: &Graph,
+    who: u32,
+    agenda: &mut PlaceSet,
+) -> Result<(), AllocError>
     requires { graph.now.nodes ≡ tree.now.nodes }
     ensures { OnOk result (AreNoted graph.now.order (is_touched_from graph.now.nodes (Some who))
         agenda.old agenda.new) }
@@ -91,7 +100,7 @@ fn note_within(tree: &Tree, graph: &Graph, who: u32, agenda: &mut Agenda) -> Res
 }
 
 // Lists an element and what reads it; nothing for a serial of no element.
-fn note_element(graph: &Graph, serial: u32, agenda: &mut Agenda) -> Result<(), AllocError>
+fn note_element(graph: &Graph, serial: u32, agenda: &mut PlaceSet) -> Result<(), AllocError>
     ensures { OnOk result (AreNoted graph.now.order (is_self_or_reader graph.now.nodes serial)
         agenda.old agenda.new) }
 {
@@ -104,7 +113,7 @@ fn note_element(graph: &Graph, serial: u32, agenda: &mut Agenda) -> Result<(), A
 }
 
 // Lists elements; a serial of no element is passed over.
-fn note_all(graph: &Graph, serials: &[u32], agenda: &mut Agenda) -> Result<(), AllocError>
+fn note_all(graph: &Graph, serials: &[u32], agenda: &mut PlaceSet) -> Result<(), AllocError>
     ensures { OnOk result (AreNoted graph.now.order (has serials.now) agenda.old agenda.new) }
 {
     for serial in serials {
@@ -114,7 +123,7 @@ fn note_all(graph: &Graph, serials: &[u32], agenda: &mut Agenda) -> Result<(), A
 }
 
 // Lists an element; a serial of no element is passed over.
-fn note(graph: &Graph, serial: u32, agenda: &mut Agenda) -> Result<(), AllocError>
+fn note(graph: &Graph, serial: u32, agenda: &mut PlaceSet) -> Result<(), AllocError>
     ensures { OnOk result
         (AreNoted graph.now.order (λ (s : ℕ). serial == s) agenda.old agenda.new) }
 {

@@ -1,19 +1,21 @@
 //! Elements as they were before they changed, by which a table goes back to its mark.
 
-ghost use Rattle.std.specs.Prelude.{◌≡◌, [], ◌∷◌, ◌++◌, true, OnOk, IfSome, MatchOption};
+ghost use Rattle.std.specs.Prelude.{◌≡◌, [], ◌∷◌, ◌++◌, true, false, OnOk, IfOk, IfSome, MatchOption, slice_index_or, slice_set};
 ghost use Rattle.smil_laws.specs.Near.{IsIntervalNear};
-ghost use Rattle.smil_nodes.specs.Undo.{MayGrow, has_row};
+ghost use Rattle.smil_nodes.specs.Undo.{MayGrow, has_note};
 
-use smil_element::Ending;
-use smil_rounds::current_rows::CurrentRow;
+use smil_element::{DueChanges, Ending};
+use smil_model::Interval;
 use std::alloc::{AllocError, Global};
-use std::collections::BTreeSet;
 use std::marker::Model;
 
-/// The row of an element, and its ending, as they were before they changed.
+/// What is kept of an element, as it was before it changed.
 #[derive(Clone, Copy)]
 pub struct Note {
-    pub row: CurrentRow,
+    /// The index of its row.
+    pub index: usize,
+    pub interval: Option<Interval>,
+    pub comings: DueChanges,
     pub ending: Ending,
 }
 
@@ -22,63 +24,84 @@ pub struct Note {
 #[derive(Drop)]
 pub struct Undo {
     notes: Vec<Note>,
-    /// Serials of elements that have one of the notes, so that no further one of them is needed.
-    noted: BTreeSet<u32>,
+    /// By the index of its row, whether an element has one of the notes, so that no further one of
+    /// it is needed.
+    marks: Vec<bool>,
 }
 
 impl Model for Undo {
     ghost use Rattle.std.specs.Prelude.{List};
     ghost use Rattle.smil_nodes.specs.declared.undo.Note.{Note as AnyNote};
-    ghost use Rattle.smil_nodes.specs.Undo.{AreNearNotes, HaveRows};
+    ghost use Rattle.smil_nodes.specs.Undo.{AreMarked, AreNearNotes};
 
     ghost Value = { List AnyNote };
 
     ghost view = { λ a. a.notes.items };
 
-    ghost invariant = { λ a. AreNearNotes a.notes.items × HaveRows a.noted.keys a.notes.items };
+    ghost invariant = { λ a. AreNearNotes a.notes.items × AreMarked a.marks.items a.notes.items };
 }
 
 impl Undo {
-    /// No notes. It takes no memory.
-    pub fn new(alloc: Global) -> Undo
-        ensures { result ≡ [] }
+    /// No notes, of so many elements. It takes memory for each of these, and none for notes;
+    /// refused where memory runs out.
+    pub fn of(alloc: Global, count: usize) -> Result<Undo, AllocError>
+        ensures { IfOk result (λ undo. undo ≡ []) }
     {
-        Undo {
+        let marks = Vec::from_elem(alloc, false, count)?;
+        Ok(Undo {
             notes: Vec::new(alloc),
-            noted: BTreeSet::new(alloc),
-        }
+            marks,
+        })
     }
 
     /// Notes an element before it changes, unless it is noted already. It takes memory for each
-    /// element once, and log n steps for n of them. Where memory runs out the element may be noted
-    /// or not.
+    /// element once, and a fixed number of steps. Where memory runs out the element is not noted.
     pub fn note(&mut self, noted: Note) -> Result<(), AllocError>
-        requires { IfSome noted.row.interval IsIntervalNear }
+        requires { IfSome noted.interval IsIntervalNear }
         ensures grown { MayGrow self.old noted self.new }
-        ensures noted { OnOk result (has_row self.new noted.row.serial ≡ true) }
+        ensures noted { OnOk result (has_note self.new noted.index ≡ true) }
     {
-        if !self.noted.contains(&noted.row.serial) {
+        if !mark_at(&self.marks, noted.index) {
             self.notes.push(noted)?;
-            self.noted.insert(noted.row.serial)?;
+            put_mark(&mut self.marks, noted.index, true);
         }
         Ok(())
     }
 
     /// Takes the last note; None exactly where there is none. It takes no memory.
     pub fn take_last(&mut self) -> Option<Note>
-        ensures last { MatchOption result (self.old ≡ []) (λ noted. self.old
+        ensures last { MatchOption result ((self.old ≡ []) × (self.new ≡ [])) (λ noted. self.old
             ≡ self.new ++ noted ∷ []) }
-        ensures near { IfSome result (λ noted. IfSome noted.row.interval IsIntervalNear) }
+        ensures near { IfSome result (λ noted. IfSome noted.interval IsIntervalNear) }
     {
-        self.noted.clear();
-        self.notes.pop()
+        let noted = self.notes.pop()?;
+        put_mark(&mut self.marks, noted.index, false);
+        Some(noted)
     }
 
-    /// Drops all notes. It takes no memory.
+    /// Drops all notes. It takes a step for each, and no memory.
     pub fn clear(&mut self)
         ensures { self.new ≡ [] }
     {
-        self.noted.clear();
-        self.notes.clear();
+        while self.take_last().is_some() {}
+    }
+}
+
+// The mark at an index; none is set where there is none.
+fn mark_at(marks: &[bool], index: usize) -> bool
+    ensures { result ≡ slice_index_or marks.now index false }
+{
+    match marks.get(index) {
+        Some(mark) => *mark,
+        None => false,
+    }
+}
+
+// Puts a mark at an index; where there is none nothing changes.
+fn put_mark(marks: &mut [bool], index: usize, mark: bool)
+    ensures { marks.new ≡ slice_set marks.old index mark }
+{
+    if index < marks.len() {
+        marks[index] = mark;
     }
 }

@@ -12,6 +12,5 @@ pub mod Printing
 pub mod Ranging
 pub mod Validity
 pub mod Placed
-pub mod Taken
 pub mod Migrating
 pub mod Near

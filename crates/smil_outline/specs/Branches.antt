@@ -1,10 +1,11 @@
 -- The open branch of an outline that is read, and what is kept of the lines before.
-use Rattle.std.specs.Prelude.{◌≡◌, ℕ, ◌≤◌, Bool, true, false, not, ◌||◌, ◌==◌, List, [], ◌∷◌, length, take, Option, Some, None, Ok, unwrap_or, option_map, slice_get, bytes_eq}
+use Rattle.std.specs.Prelude.{◌≡◌, ℕ, ◌≤◌, Bool, true, false, not, ◌||◌, ◌==◌, List, [], ◌∷◌, length, take, Option, Some, None, Ok, is_some, unwrap_or, option_map, slice_get, bytes_eq}
 use Rattle.std.specs.List.{list_any}
+use Rattle.std.specs.FinMap.{FinMap, get}
+use Rattle.std.specs.Ordering.{nat_cmp}
 use Rattle.smil_model.specs.declared.limits.TheConstants.{NODES, REFERENCES}
 use Rattle.smil_model.specs.declared.document.Kind.{Kind}
 use Rattle.smil_model.specs.declared.document.Node.{Node}
-use Rattle.smil_model.specs.document.Closure.{has}
 use Rattle.smil_model.specs.document.Valid.{references, same_test}
 use Rattle.smil_model.specs.document.Document.{is_class_kind}
 use Rattle.smil_grammar.specs.Outlines.{Outline, no_lines, has_id, last_of, mixes, with_lines}
@@ -16,12 +17,13 @@ is_among_ids ids id = list_any (λ (other : List ℕ). bytes_eq other id) ids
 -- the ids and the serials of these nodes, the empty id for a node without one,
 -- and how many items refer to something
 pub record IsNoted
-    (nodes : List Node) (ids : List (List ℕ)) (serials : List ℕ) (count : ℕ) : Type 0 where
+    (nodes : List Node) (ids : List (List ℕ)) (places : FinMap nat_cmp ℕ) (count : ℕ) : Type 0 where
   pub counted : count ≡ references nodes
   pub few : count ≤ REFERENCES
   pub named : (id : List ℕ) → is_among_ids ids id ≡ has_id nodes (Some id)
   pub numbered :
-      (serial : ℕ) → has serials serial ≡ list_any (λ (n : Node). n.serial == serial) nodes
+      (serial : ℕ)
+      → is_some (get places serial) ≡ list_any (λ (n : Node). n.serial == serial) nodes
 
 -- whether one of a node and a kind is a class and the other is none
 abbrev pub differs : Option (ℕ × Kind) → Kind → Bool

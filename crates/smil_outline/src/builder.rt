@@ -17,7 +17,7 @@ use super::refusals::refused;
 use smil_attrs::{Shape, fits, read_header, shape_attrs, shape_kind};
 use smil_lexis::runs;
 use smil_lexis::texts::is;
-use smil_model::{Attrs, DEPTH, Doc, Duplicate, Kind, LINE_BYTES, NODES, Node, Refusal};
+use smil_model::{Attrs, DEPTH, Doc, Kind, LINE_BYTES, NODES, Node, Refusal};
 use std::alloc::{AllocError, Global};
 use std::marker::Model;
 
@@ -357,18 +357,12 @@ impl Builder {
             Some(next) => next,
             None => count as u32 + 1,
         };
-        Ok(self.copied(next)?)
-    }
-
-    // A document of the same nodes.
-    fn copied(&self, next: u32) -> Result<Doc, AllocError>
-        ensures nodes { IfOk result (λ doc. doc.nodes ≡ self.now.nodes) }
-        ensures next { IfOk result (λ doc. doc.next ≡ next) }
-    {
-        let mut doc = Doc::new(self.alloc, next);
-        for node in self.nodes.slice() {
-            doc.push(node.copy()?)?;
-        }
-        Ok(doc)
+        let Builder {
+            alloc: _alloc,
+            nodes,
+            branch: _branch,
+            next: _next,
+        } = self;
+        Ok(nodes.into_doc(next)?)
     }
 }

@@ -4,13 +4,13 @@ ghost use Rattle.std.specs.Prelude.{◌≡◌, ℕ, List, [], ◌||◌, bytes_eq
 ghost use Rattle.smil_outline.specs.Branches.{is_among_ids};
 
 use std::alloc::{AllocError, Global};
-use std::collections::BTreeSet;
+use std::collections::HashSet;
 use std::marker::Model;
 
-/// Ids, each once, which are found in logarithmic time.
+/// Ids, each once, which are found by their hash.
 #[derive(Drop)]
 pub struct Ids {
-    ids: BTreeSet<Vec<u8>>,
+    ids: HashSet<Vec<u8>>,
 }
 
 impl Model for Ids {
@@ -27,7 +27,7 @@ impl Ids {
         ensures { result ≡ [] }
     {
         Ids {
-            ids: BTreeSet::new(alloc),
+            ids: HashSet::new(alloc),
         }
     }
 

@@ -7,11 +7,11 @@ mod builder;
 mod ids;
 mod nodes;
 mod refusals;
-mod serials;
 mod writer;
 
 pub use again::{
     attrs_fit, outline_again, outline_lines, outline_valid, outlines_migrate, saved_again,
 };
+pub use branch::Branch;
 pub use builder::Builder;
-pub use writer::{write_doc, write_doc_2};
+pub use writer::{put_next, write_doc, write_doc_2};

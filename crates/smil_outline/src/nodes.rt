@@ -1,15 +1,15 @@
 //! The nodes of an outline, and what is asked of them at each line.
 
-ghost use Rattle.std.specs.Prelude.{◌≡◌, ◌≤◌, ◌+◌, [], ◌∷◌, ◌++◌, length, unwrap_or, not, ◌==◌, nat_lt, OnOk, OnErr};
+ghost use Rattle.std.specs.Prelude.{◌≡◌, ◌≤◌, ◌+◌, [], ◌∷◌, ◌++◌, length, unwrap_or, not, ◌==◌, nat_lt, IfOk, OnOk, OnErr};
 ghost use Rattle.std.specs.List.{list_any};
 ghost use Rattle.smil_model.specs.declared.document.Node.{Node};
 ghost use Rattle.smil_model.specs.document.Valid.{references as all_references, references_among};
 ghost use Rattle.smil_grammar.specs.Outlines.{has_id as has_id_among};
 
 use super::ids::Ids;
-use super::serials::SerialSet;
-use smil_model::growing_list::GrowingList;
-use smil_model::{Attrs, Bytes, Node, REFERENCES, references_in, references_in_list};
+use smil_model::{
+    Attrs, Bytes, Doc, Node, REFERENCES, SerialTable, references_in, references_in_list,
+};
 use std::alloc::{AllocError, Global};
 use std::marker::Model;
 
@@ -17,9 +17,10 @@ use std::marker::Model;
 #[derive(Drop)]
 pub struct Nodes {
     alloc: Global,
-    nodes: GrowingList<Node>,
+    nodes: Vec<Node>,
     ids: Ids,
-    serials: SerialSet,
+    /// The places of the nodes, by serial.
+    places: SerialTable,
     references: usize,
 }
 
@@ -30,9 +31,9 @@ impl Model for Nodes {
 
     ghost Value = { List Node };
 
-    ghost view = { λ a. a.nodes };
+    ghost view = { λ a. a.nodes.items };
 
-    ghost invariant = { λ a. IsNoted a.nodes a.ids a.serials a.references };
+    ghost invariant = { λ a. IsNoted a.nodes.items a.ids a.places a.references };
 }
 
 // A node's id, which is empty where it has none.
@@ -52,9 +53,9 @@ impl Nodes {
     {
         Nodes {
             alloc,
-            nodes: GrowingList::new(alloc),
+            nodes: Vec::new(alloc),
             ids: Ids::new(alloc),
-            serials: SerialSet::new(alloc),
+            places: SerialTable::new(alloc),
             references: 0,
         }
     }
@@ -64,13 +65,6 @@ impl Nodes {
         ensures { result ≡ length self.now }
     {
         self.nodes.len()
-    }
-
-    /// All nodes, in order.
-    pub fn slice(&self) -> &[Node]
-        ensures { result.now ≡ self.now }
-    {
-        self.nodes.slice()
     }
 
     /// Whether a node with these attributes leaves at most 32,000 items that are neither offsets
@@ -98,7 +92,7 @@ impl Nodes {
     pub fn has_serial(&self, serial: u32) -> bool
         ensures { result ≡ list_any (λ (n : Node). n.serial == serial) self.now }
     {
-        self.serials.has(serial)
+        self.places.get(serial).is_some()
     }
 
     /// Appends a node. After a refusal the nodes are as before.
@@ -110,19 +104,34 @@ impl Nodes {
         let more = references_in(&node.attrs);
         let id = Vec::from_slice(self.alloc, id_of(&node))?;
         let serial = node.serial;
-        let was_there = self.serials.has(serial);
+        let was_there = self.has_serial(serial);
         let len = self.nodes.len();
         self.nodes.push(node)?;
-        if self.serials.put(serial).is_err() {
-            self.nodes.cut_back(len);
+        if self.places.put(serial, len).is_err() {
+            self.nodes.truncate(len);
             return Err(AllocError);
         }
         if self.ids.put(id).is_err() {
-            self.nodes.cut_back(len);
-            self.serials.take_back(serial, was_there);
+            self.nodes.truncate(len);
+            if !was_there {
+                self.places.forget(serial);
+            }
             return Err(AllocError);
         }
         self.references += more;
         Ok(())
+    }
+
+    /// The document of these nodes, which are moved into it, with this next serial.
+    pub fn into_doc(self, next: u32) -> Result<Doc, AllocError>
+        ensures nodes { IfOk result (λ doc. doc.nodes ≡ self) }
+        ensures next { IfOk result (λ doc. doc.next ≡ next) }
+    {
+        let Nodes { alloc, nodes, .. } = self;
+        let mut doc = Doc::new(alloc, next);
+        for node in nodes {
+            doc.push(node)?;
+        }
+        Ok(doc)
     }
 }

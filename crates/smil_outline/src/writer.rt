@@ -54,9 +54,11 @@ fn put_line(node: &Node, depth: usize, saved: bool, out: &mut Bytes) -> Result<(
     }
 }
 
-// Appends the line of the next node, which goes on the branch below its parent.
+/// Appends the line of the next node of an outline, in document order, ended by a line feed. The
+/// node goes on the branch below its parent. Where memory is refused, some of the line may stand in
+/// `out`.
 #[tactic(auto, using(smil_model::proofs::Growing::begins_on))]
-fn put_next(
+pub fn put_next(
     node: &Node,
     branch: &mut Branch,
     saved: bool,

@@ -1,6 +1,6 @@
 //! Which calls of a source or a sink in memory fail.
 
-ghost use Rattle.std.specs.Prelude.{◌≡◌, ◌↔◌, ◌+◌, ◌≤◌, IfOk, IsTrue, Contains};
+ghost use Rattle.std.specs.Prelude.{◌≡◌, ◌↔◌, ◌+◌, IfOk, IsTrue, Contains};
 ghost use Rattle.smil_outside.specs.Faults.{HasRisen};
 
 use std::alloc::{AllocError, Global};
@@ -53,7 +53,6 @@ impl FaultPlan {
     pub(crate) fn count_fault(&mut self)
         ensures value { self.new ≡ faulted self.old }
         ensures risen { HasRisen self.old.faults self.new.faults }
-        ensures count { self.old.faults ≤ self.new.faults }
     {
         self.faults = self.faults.saturating_add(1);
     }

@@ -76,10 +76,10 @@ impl LineReader {
         ensures reads { IsNone self.old.closed
             → Reads self.old self.new result (S.rest source.old) (S.rest source.new) }
 
-        // Faults come from the source alone.
+        // Only a read that failed counts as a fault.
+        ensures kept { result ≢ Line.ReadFault → S.faults source.new ≡ S.faults source.old }
         ensures cause { result ≡ Line.ReadFault → IsNone self.old.closed
             → HasRisen (S.faults source.old) (S.faults source.new) }
-        ensures count { S.faults source.old ≤ S.faults source.new }
         ensures sure { S.never_fails source.old → S.never_fails source.new
             × (IsNone self.old.closed → result ≢ Line.ReadFault) }
         ensures bound { self.new.number ≤ INPUT_BYTES }

@@ -69,8 +69,8 @@ impl Sink for MemSink {
         ensures bound { IfOk result (λ n. n ≤ length piece.now) }
         ensures progress { IfOk result (λ n. 0 < length piece.now → 0 < n) }
         ensures bytes { WriteAppends (Some self.old.taken) (Some self.new.taken) result piece.now }
+        ensures kept { OnOk result (self.new.plan.faults ≡ self.old.plan.faults) }
         ensures cause { OnErr result (HasRisen self.old.plan.faults self.new.plan.faults) }
-        ensures count { self.old.plan.faults ≤ self.new.plan.faults }
         ensures sure { 0 < length piece.now → length piece.now ≤ sure_room_of self.old
             → IsOk result }
         ensures room { IfOk result (λ n. sure_room_of self.old ≤ sure_room_of self.new + n) }

@@ -1,6 +1,6 @@
 //! A source over bytes in memory, of which reads with given numbers fail.
 
-ghost use Rattle.std.specs.Prelude.{◌≡◌, ◌↔◌, ◌+◌, ◌<◌, ◌≤◌, length, drop, min, Some, IsErr, IsOk, IfOk, OnErr, Contains};
+ghost use Rattle.std.specs.Prelude.{◌≡◌, ◌↔◌, ◌+◌, ◌<◌, ◌≤◌, length, drop, min, Some, IsErr, IsOk, IfOk, OnOk, OnErr, Contains};
 ghost use Rattle.std.specs.Io.KnownBytes.{ReadConsumes};
 ghost use Rattle.smil_outside.specs.Faults.{HasRisen};
 
@@ -70,8 +70,8 @@ impl Source for MemSource {
     fn read(&mut self, buf: &mut [u8]) -> Result<usize, Failed>
         ensures bound { IfOk result (λ n. n ≤ length buf.new) }
         ensures bytes { ReadConsumes (Some self.old.rest) (Some self.new.rest) result buf.new }
+        ensures kept { OnOk result (self.new.plan.faults ≡ self.old.plan.faults) }
         ensures cause { OnErr result (HasRisen self.old.plan.faults self.new.plan.faults) }
-        ensures count { self.old.plan.faults ≤ self.new.plan.faults }
         ensures sure { SurelyGives self.old → IsOk result × SurelyGives self.new }
         ensures fails { IsErr result ↔ Contains self.old.plan.fail_at (self.old.plan.calls + 1) }
         ensures most { IfOk result (λ n.

@@ -43,9 +43,9 @@ pub(crate) fn seek_line_end<S: Source>(
         (S.rest source.old) (S.rest source.new) }
     ensures line { window.new.line ≡ [] }
     ensures taken { taken.new ≤ INPUT_BYTES + WINDOW_BYTES }
+    ensures kept { result.stop ≢ Stop.Fault → S.faults source.new ≡ S.faults source.old }
     ensures cause { result.stop ≡ Stop.Fault
         → HasRisen (S.faults source.old) (S.faults source.new) }
-    ensures count { S.faults source.old ≤ S.faults source.new }
     ensures sure { S.never_fails source.old
         → S.never_fails source.new × (result.stop ≢ Stop.Fault) }
 {

@@ -11,7 +11,8 @@ pub trait Sink {
     /// The bytes that were taken, where the sink tells them.
     ghost taken: { Self → Option (List ℕ) };
 
-    /// How often writing has failed. It never falls, and stands still at the largest `u64`.
+    /// How often writing has failed. Only a failed write raises it, and at the largest `u64` it
+    /// stands still.
     ghost faults: { Self → ℕ };
 
     /// How many bytes are taken from here on without a fault. A sink that doesn't tell leaves it
@@ -24,8 +25,8 @@ pub trait Sink {
         ensures bound { IfOk result (λ n. n ≤ length piece.now) }
         ensures progress { IfOk result (λ n. 0 < length piece.now → 0 < n) }
         ensures bytes { WriteAppends (taken self.old) (taken self.new) result piece.now }
+        ensures kept { OnOk result (faults self.new ≡ faults self.old) }
         ensures cause { OnErr result (HasRisen (faults self.old) (faults self.new)) }
-        ensures count { faults self.old ≤ faults self.new }
         ensures sure { 0 < length piece.now → length piece.now ≤ sure_room self.old → IsOk result }
         ensures room { IfOk result (λ n. sure_room self.old ≤ sure_room self.new + n) };
 }
@@ -36,8 +37,8 @@ pub fn write_all<K: Sink>(sink: &mut K, bytes: &[u8]) -> Result<(), Failed>
     ensures ok { OnOk result (Appends (K.taken sink.old) (K.taken sink.new) bytes.now) }
     ensures err { OnErr result ((n : ℕ) × (n < length bytes.now)
         × Appends (K.taken sink.old) (K.taken sink.new) (take n bytes.now)) }
+    ensures kept { OnOk result (K.faults sink.new ≡ K.faults sink.old) }
     ensures cause { OnErr result (HasRisen (K.faults sink.old) (K.faults sink.new)) }
-    ensures count { K.faults sink.old ≤ K.faults sink.new }
     ensures sure { length bytes.now ≤ K.sure_room sink.old → IsOk result }
     ensures room { OnOk result (K.sure_room sink.old ≤ K.sure_room sink.new + length bytes.now) }
 {

@@ -1,6 +1,6 @@
 //! What bytes are read from.
 
-ghost use Rattle.std.specs.Prelude.{◌≡◌, ℕ, ◌≤◌, List, Option, length, IsOk, IfOk, OnErr};
+ghost use Rattle.std.specs.Prelude.{◌≡◌, ℕ, ◌≤◌, List, Option, length, IsOk, IfOk, OnOk, OnErr};
 ghost use Rattle.std.specs.Io.KnownBytes.{ReadConsumes};
 ghost use Rattle.smil_outside.specs.Faults.{HasRisen};
 
@@ -11,7 +11,8 @@ pub trait Source {
     /// The bytes that are left, where the source tells them.
     ghost rest: { Self → Option (List ℕ) };
 
-    /// How often reading has failed. It never falls, and stands still at the largest `u64`.
+    /// How often reading has failed. Only a failed read raises it, and at the largest `u64` it
+    /// stands still.
     ghost faults: { Self → ℕ };
 
     /// That no read fails from here on. A source that doesn't tell leaves it out.
@@ -23,7 +24,7 @@ pub trait Source {
     fn read(&mut self, buf: &mut [u8]) -> Result<usize, Failed>
         ensures bound { IfOk result (λ n. n ≤ length buf.new) }
         ensures bytes { ReadConsumes (rest self.old) (rest self.new) result buf.new }
+        ensures kept { OnOk result (faults self.new ≡ faults self.old) }
         ensures cause { OnErr result (HasRisen (faults self.old) (faults self.new)) }
-        ensures count { faults self.old ≤ faults self.new }
         ensures sure { never_fails self.old → IsOk result × never_fails self.new };
 }

@@ -49,9 +49,8 @@ impl<W: Write + Drop> Sink for StdSink<W> {
             (λ n. Appends self.old.bytes self.new.bytes (take n piece.now)) }
         ensures part { OnErr result ((n : ℕ) × (n ≤ length piece.now)
             × Appends self.old.bytes self.new.bytes (take n piece.now)) }
+        ensures kept { OnOk result (self.new.faults ≡ self.old.faults) }
         ensures cause { OnErr result (HasRisen self.old.faults self.new.faults) }
-        ensures count { self.old.faults ≤ self.new.faults }
-        ensures ok { OnOk result (self.new.faults ≡ self.old.faults) }
         ensures err { OnErr result (self.new.faults ≡ more_faults self.old.faults) }
     {
         if let Ok(n) = self.writer.write(piece)

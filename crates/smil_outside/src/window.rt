@@ -1,6 +1,6 @@
 //! A buffer of fixed size between a source and the lines.
 
-ghost use Rattle.std.specs.Prelude.{◌≡◌, ◌≢◌, ℕ, ◌+◌, ◌-◌, ◌<◌, ◌≤◌, List, [], ◌++◌, length, take, drop, slice_index, slice_range, EachIndex, MatchOption, IsOk, IfOk, OnErr};
+ghost use Rattle.std.specs.Prelude.{◌≡◌, ◌≢◌, ℕ, ◌+◌, ◌-◌, ◌<◌, ◌≤◌, List, [], ◌++◌, length, take, drop, slice_index, slice_range, EachIndex, MatchOption, IsOk, IfOk, OnOk, OnErr};
 ghost use Rattle.std.specs.Io.KnownBytes.{Consumes, IsAtEnd, Keeps};
 ghost use Rattle.smil_outside.specs.Faults.{HasRisen};
 ghost use Rattle.smil_model.specs.document.Words.{line_feed};
@@ -103,8 +103,8 @@ impl Window {
         ensures end { IfOk result (λ n. n ≡ 0 → IsAtEnd (S.rest source.new)) }
         ensures err { OnErr result ((self.new.bytes ≡ self.old.bytes)
             × Keeps (S.rest source.old) (S.rest source.new)) }
+        ensures kept { OnOk result (S.faults source.new ≡ S.faults source.old) }
         ensures cause { OnErr result (HasRisen (S.faults source.old) (S.faults source.new)) }
-        ensures count { S.faults source.old ≤ S.faults source.new }
         ensures sure { S.never_fails source.old → IsOk result × S.never_fails source.new }
     {
         let len = self.end - self.start;
@@ -143,8 +143,8 @@ fn read_behind<S: Source>(source: &mut S, buffer: &mut [u8], at: usize) -> Resul
         (slice_range buffer.new at (at + n))) }
     ensures end { IfOk result (λ n. n ≡ 0 → IsAtEnd (S.rest source.new)) }
     ensures err { OnErr result (Keeps (S.rest source.old) (S.rest source.new)) }
+    ensures kept { OnOk result (S.faults source.new ≡ S.faults source.old) }
     ensures cause { OnErr result (HasRisen (S.faults source.old) (S.faults source.new)) }
-    ensures count { S.faults source.old ≤ S.faults source.new }
     ensures sure { S.never_fails source.old → IsOk result × S.never_fails source.new }
 {
     source.read(&mut buffer[at..])

@@ -20,3 +20,6 @@ pub mod Copied
 pub mod Fronts
 pub mod Grown
 pub mod Seconds
+pub mod Lent
+pub mod Active
+pub mod Makeups

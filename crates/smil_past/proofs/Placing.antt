@@ -16,7 +16,7 @@ use Rattle.smil_laws.proofs.Members.{differ_each}
 use Rattle.smil_laws.proofs.Lists.{each_at}
 use Rattle.smil_excl.specs.declared.queued_child.QueuedChild.{QueuedChild}
 use Rattle.smil_excl.specs.QueueState.{QueueState, line_in, ranked}
-use Rattle.smil_stretch.specs.Clocks.{parent_place}
+use Rattle.smil_tree.specs.Outline.{parent_place}
 use Rattle.smil_stretch.proofs.Placed.{place, IsFound, found_at}
 use Rattle.smil_past.specs.Queues.{HasRoom, lines}
 

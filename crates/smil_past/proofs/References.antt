@@ -24,6 +24,8 @@ use Rattle.smil_graph.proofs.Kept.{place_is}
 use Rattle.smil_instances.specs.Dependents.{DocumentDependents, AreDependentsOf, source_in}
 use Rattle.smil_instances.specs.Spread.{IsIndex}
 use Rattle.smil_instances.specs.declared.syncbase.Syncbase.{Syncbase}
+use Rattle.smil_past.specs.declared.makeup.Makeup.{Makeup}
+use Rattle.smil_past.specs.Makeups.{makeup_of}
 use Rattle.smil_past.specs.Syncs.{IsListOf, SyncRow, all_syncs, from_end, from_named, listed, serials_in, sync_by, sync_from, sync_of, sync_row, syncs_of, syncs_on}
 
 -- ---- one item
@@ -165,9 +167,9 @@ side_told nodes End e = refl
 -- ---- the rows of elements
 
 -- a row is made of its parts
-pub row_is : (nodes : List Node) (e : Node) (who : ℕ) (begins ends : List Syncbase) (row : SyncRow) → row ≡ record { serial = who; begins = begins; ends = ends } → who ≡ e.serial → begins ≡ syncs_of nodes Begin e → ends ≡ syncs_of nodes End e → row ≡ sync_row nodes e
-row_is nodes e who begins ends row made serial begins_are ends_are =
-    made ∙ (λ i. record { serial = serial i; begins = begins_are i; ends = ends_are i })
+pub row_is : (nodes : List Node) (e : Node) (who : ℕ) (begins ends : List Syncbase) (makeup : Makeup) (row : SyncRow) → row ≡ record { serial = who; begins = begins; ends = ends; makeup = makeup } → who ≡ e.serial → begins ≡ syncs_of nodes Begin e → ends ≡ syncs_of nodes End e → makeup ≡ makeup_of nodes e → row ≡ sync_row nodes e
+row_is nodes e who begins ends makeup row made serial begins_are ends_are makeup_is =
+    made ∙ (λ i. record { serial = serial i; begins = begins_are i; ends = ends_are i; makeup = makeup_is i })
 
 -- an element is found among the elements
 pub kept_known : (ns : List Node) (who : ℕ) (e : Node) → node_at ns who ≡ Some e → is_element e ≡ true → node_at (elements ns) who ≡ Some e

@@ -35,6 +35,11 @@ row_first who [] k d is = elim is [ ]
 row_first who (x ∷ xs) zero d is = ap (λ t. option_map (λ (row : Row). row.1) (cond t (Some x) (find (λ (row : Row). row.0 == who) xs))) is
 row_first who (x ∷ xs) (suc k) d is = ap (λ t. option_map (λ (row : Row). row.1) (cond t (Some x) (find (λ (row : Row). row.0 == who) xs))) is.0 ∙ row_first who xs k d is.1
 
+pub first_key : (who : ℕ) (xs : List Row) (k : ℕ) (d : Row) → IsFirst who xs k → (get_or xs k d).0 ≡ who
+first_key who [] k d is = elim is [ ]
+first_key who (x ∷ xs) zero d is = eqb-true x.0 who is
+first_key who (x ∷ xs) (suc k) d is = first_key who xs k d is.1
+
 -- ---- a row put in its place
 
 cons_row : (s : ℕ) (x : Row) (xs : List Row) → row_of (x ∷ xs) s ≡ cond (x.0 == s) (Some x.1) (row_of xs s)

@@ -2,6 +2,7 @@ pub mod Played
 pub mod Followed
 pub mod Rows
 pub mod Queues
+pub mod Makeups
 pub mod Syncs
 pub mod Past
 pub mod Readings

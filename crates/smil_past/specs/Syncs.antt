@@ -19,6 +19,8 @@ use Rattle.smil_instances.specs.ExpectedTimes.{expected_of}
 use Rattle.smil_instances.specs.declared.source.Source.{Source}
 use Rattle.smil_instances.specs.declared.source.Source.TheVariants as source
 use Rattle.smil_instances.specs.declared.syncbase.Syncbase.{Syncbase}
+use Rattle.smil_past.specs.declared.makeup.Makeup.{Makeup}
+use Rattle.smil_past.specs.Makeups.{makeup_of}
 
 abbrev pub from_end : ℤ → Option Node → Option Syncbase
 from_end offset None = None
@@ -48,10 +50,16 @@ pub record SyncRow : Type 0 where
   pub serial : ℕ
   pub begins : List Syncbase
   pub ends : List Syncbase
+  pub makeup : Makeup
 
 abbrev pub sync_row : List Node → Node → SyncRow
 sync_row nodes e =
-    record { serial = e.serial; begins = syncs_of nodes Begin e; ends = syncs_of nodes End e }
+    record {
+      serial = e.serial;
+      begins = syncs_of nodes Begin e;
+      ends = syncs_of nodes End e;
+      makeup = makeup_of nodes e;
+    }
 
 abbrev pub all_syncs : List Node → List SyncRow
 all_syncs nodes = map (sync_row nodes) (elements nodes)
@@ -60,10 +68,6 @@ all_syncs nodes = map (sync_row nodes) (elements nodes)
 abbrev pub syncs_on : Edge → SyncRow → List Syncbase
 syncs_on Begin row = row.begins
 syncs_on End row = row.ends
-
-abbrev pub side_in : Edge → Option SyncRow → List Syncbase
-side_in side None = []
-side_in side (Some row) = syncs_on side row
 
 abbrev pub serials_in : List SyncRow → List ℕ
 serials_in rows = map (λ (row : SyncRow). row.serial) rows

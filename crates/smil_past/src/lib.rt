@@ -1,14 +1,17 @@
 //! What has happened in a presentation so far, with all that is read off it: the plays of elements,
-//! the queues of excls, and the references that give a time before it has happened.
+//! the queues of excls, the references that give a time before it has happened, and what evaluation
+//! reads of attributes.
 #![tactic(auto)]
 
 mod chronicle;
+pub mod makeup;
 pub mod past;
 pub mod plays;
 mod queues;
 pub mod readings;
 pub mod syncs;
 
+pub use makeup::Makeup;
 pub use past::{GraphedTree, Past};
 pub use plays::{PastInterval, PlayFacts, Plays};
 pub use queues::Queues;

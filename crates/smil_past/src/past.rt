@@ -2,9 +2,14 @@
 
 ghost use Rattle.std.specs.Prelude.{◌≡◌, ◌<◌, ℕ, [], ◌∷◌, ◌++◌, length, true, None, Some, is_some, OnOk, OnErr, IfOk, IfErr};
 ghost use Rattle.smil_model.specs.declared.limits.TheConstants as limits;
+ghost use Rattle.smil_model.specs.declared.document.Node.{Node as AnyNode};
+ghost use Rattle.smil_model.specs.document.Document.{elements, node_at};
+ghost use Rattle.smil_model.specs.diary.Diary.{is_active};
+ghost use Rattle.smil_model.specs.diary.Lawful.{has_element};
 ghost use Rattle.smil_stretch.specs.Clocks.{AreClocksOf};
 ghost use Rattle.smil_past.specs.Played.{all_played};
 ghost use Rattle.smil_past.specs.Queues.{kept_queues};
+ghost use Rattle.smil_past.specs.Makeups.{makeup_of};
 ghost use Rattle.smil_past.specs.Syncs.{all_syncs};
 ghost use Rattle.smil_instances.specs.Instances.{IsSettled};
 ghost use Rattle.smil_diary.specs.declared.fault.BookFault.TheVariants as book_fault;
@@ -12,6 +17,7 @@ ghost use Rattle.smil_past.specs.Chronicle.{BacksUp, EndsAtMark, LagsIfAny, Tell
 ghost use Rattle.smil_past.specs.Past.{IsPossible, MayFollow, MayHear, history_of, with_diary, with_heard, at_mark};
 
 use super::chronicle::Chronicle;
+use super::makeup::Makeup;
 use super::plays::Plays;
 use super::queues::Queues;
 use super::syncs::Syncs;
@@ -250,6 +256,15 @@ impl Past {
         &self.syncs
     }
 
+    /// What evaluation reads of the attributes of an element. It takes no memory.
+    pub fn makeup(&self, who: u32) -> &Makeup
+        requires { has_element self.now.document.nodes who ≡ true }
+        ensures { (e : AnyNode) → node_at (elements self.now.document.nodes) who ≡ Some e
+            → result.now ≡ makeup_of self.now.document.nodes e }
+    {
+        self.syncs().makeup(who).unwrap()
+    }
+
     /// What came from outside.
     pub fn log(&self) -> &Log
         ensures { result.now ≡ self.now.log }
@@ -276,6 +291,15 @@ impl Past {
         ensures { result.now ≡ all_played (history_of self.now) }
     {
         &self.chronicle.readings.plays
+    }
+
+    /// Whether an element is active; false where the document has no such element. It takes no
+    /// memory.
+    pub fn active(&self, who: u32) -> bool
+        ensures { result ≡ is_active self.now.diary who }
+    {
+        self.possible();
+        self.plays().active(who)
     }
 
     /// The queues of the excls.

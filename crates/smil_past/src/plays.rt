@@ -1,9 +1,10 @@
 //! The plays of all elements of a document.
 
-ghost use Rattle.std.specs.Prelude.{◌≡◌, ℕ, List, [], Some, None, IfOk, nat_eq, map};
-ghost use Rattle.std.specs.HashMap.{get};
+ghost use Rattle.std.specs.Prelude.{◌≡◌, ℕ, List, [], Some, None, IfOk, map, option_copied};
 ghost use Rattle.smil_model.specs.document.Document.{time_children};
-ghost use Rattle.smil_model.specs.diary.Diary.{History, up_to};
+ghost use Rattle.smil_model.specs.document.Valid.{IsNumberedTree};
+ghost use Rattle.smil_model.specs.diary.Diary.{History, is_active, up_to};
+ghost use Rattle.smil_model.specs.diary.Lawful.{IsLawful};
 ghost use Rattle.smil_past.specs.declared.plays.TheConstants.{IDLE};
 ghost use Rattle.smil_model.specs.Times.{IsMoment};
 ghost use Rattle.smil_laws.specs.Near.{HasNear};
@@ -16,14 +17,13 @@ pub mod facts;
 mod row;
 
 pub use facts::{PastInterval, PlayFacts};
-use row::{OwnEntry, child, own_row};
+use row::{OwnEntry, own_row, turn_child};
 use smil_instances::elements::{elements, places_of};
 use smil_instances::{DocumentHistory, subject};
-use smil_model::{Duplicate, Entry, Log, Step, Time};
+use smil_model::{Duplicate, Entry, Log, SerialTable, Step, Time};
 use smil_stretch::Clocks;
 use smil_tree::Tree;
 use std::alloc::{AllocError, Global};
-use std::collections::HashMap;
 use std::marker::Model;
 
 // What is kept of an element to which nothing has happened yet.
@@ -41,7 +41,7 @@ const IDLE: PlayFacts = PlayFacts {
 
 /// What a diary says of the plays of each element, seen as the list of it in document order.
 pub struct Plays {
-    places: HashMap<u32, usize>,
+    places: SerialTable,
     rows: Vec<(u32, PlayFacts)>,
 }
 
@@ -56,8 +56,8 @@ impl Drop for Plays {
 }
 
 impl Model for Plays {
-    ghost use Rattle.std.specs.Prelude.{List, ℕ, nat_eq};
-    ghost use Rattle.std.specs.HashMap.{get};
+    ghost use Rattle.std.specs.Prelude.{List, ℕ};
+    ghost use Rattle.std.specs.FinMap.{get};
     ghost use Rattle.smil_instances.specs.Spread.{IsIndex};
     ghost use Rattle.smil_past.specs.Rows.{keys_of};
     ghost use Rattle.smil_past.specs.declared.plays.facts.PlayFacts.{PlayFacts as AnyPlayed};
@@ -66,13 +66,13 @@ impl Model for Plays {
 
     ghost view = { λ a. a.rows.items };
 
-    ghost invariant = { λ a. IsIndex (keys_of a.rows.items) (get nat_eq a.places) };
+    ghost invariant = { λ a. IsIndex (keys_of a.rows.items) (get a.places) };
 }
 
 impl Duplicate for Plays {
     fn copy(&self) -> Result<Self, AllocError> {
         Ok(Plays {
-            places: self.places.clone()?,
+            places: self.places.copy()?,
             rows: Vec::from_slice(*self.rows.allocator(), &self.rows)?,
         })
     }
@@ -108,28 +108,42 @@ impl Plays {
 
     /// What is kept of an element; None exactly where the document has no such element. It takes no
     /// memory.
-    pub fn of(&self, who: u32) -> Option<PlayFacts>
-        ensures { (h : History) → self.now ≡ all_played h → result ≡ played_at h who }
+    pub fn of(&self, who: u32) -> Option<&PlayFacts>
+        ensures { (h : History) → self.now ≡ all_played h
+            → option_copied result ≡ played_at h who }
     {
         self.row(who)
     }
 
-    // The row of an element.
-    fn row(&self, who: u32) -> Option<PlayFacts>
-        ensures { result ≡ row_of self.now who }
+    /// Whether an element is active; false where the document has no such element. It takes no
+    /// memory.
+    pub fn active(&self, who: u32) -> bool
+        ensures { (h : History) (next : ℕ) → self.now ≡ all_played h
+            → IsNumberedTree (record { nodes = h.nodes; next = next }) → IsLawful h
+            → result ≡ is_active h.diary who }
     {
-        let place = self.places.get(&who)?;
-        Some(self.rows.get(*place)?.1)
+        match self.row(who) {
+            Some(row) => row.begun.is_some(),
+            None => false,
+        }
+    }
+
+    // The row of an element.
+    fn row(&self, who: u32) -> Option<&PlayFacts>
+        ensures { option_copied result ≡ row_of self.now who }
+    {
+        let place = self.places.get(who)?;
+        Some(&self.rows.get(place)?.1)
     }
 
     // Puts a row in the place of the one that an element has; nothing where it has none.
     fn put(&mut self, who: u32, played: PlayFacts)
         ensures { IsPut who played self.old self.new }
     {
-        let Some(place) = self.places.get(&who) else {
+        let Some(place) = self.places.get(who) else {
             return;
         };
-        self.rows[*place] = (who, played);
+        self.rows[place] = (who, played);
     }
 
     // Takes in what an entry makes of its own element.
@@ -151,7 +165,8 @@ impl Plays {
             clocks,
             log,
         };
-        self.put(who, own_row(&own, row));
+        let after = own_row(&own, *row);
+        self.put(who, after);
     }
 
     // Takes in what a step makes of the time children of its element.
@@ -184,10 +199,10 @@ impl Plays {
     fn turn(&mut self, who: u32, birth: bool)
         ensures { IsAfterParent who birth self.old self.new }
     {
-        let Some(row) = self.row(who) else {
+        let Some(place) = self.places.get(who) else {
             return;
         };
-        self.put(who, child(birth, row));
+        turn_child(&mut self.rows[place].1, birth);
     }
 }
 

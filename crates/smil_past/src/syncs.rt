@@ -1,30 +1,32 @@
-//! What the items of all elements wait for.
+//! What evaluation reads of the document for each element.
 
-ghost use Rattle.std.specs.Prelude.{◌≡◌, List, Some, IfOk, IsSome, slice_get};
+ghost use Rattle.std.specs.Prelude.{◌≡◌, List, Some, IfOk, IsSome, option_copied, slice_get};
 ghost use Rattle.smil_model.specs.declared.document.Node.{Node as AnyNode};
 ghost use Rattle.smil_model.specs.document.Document.{elements, node_at, serials};
 ghost use Rattle.smil_instances.specs.Dependents.{AreDependentsOf};
-ghost use Rattle.smil_past.specs.Syncs.{all_syncs, side_in, sync_row, syncs_of};
+ghost use Rattle.smil_past.specs.Makeups.{makeup_of};
+ghost use Rattle.smil_past.specs.Syncs.{all_syncs, sync_row, syncs_of};
 
 pub mod laws;
 mod lists;
 pub mod row;
 
+use crate::makeup::{Makeup, makeup_of};
 use lists::Reader;
 use row::SyncbaseRow;
 use smil_graph::Graph;
 use smil_instances::Dependents;
 pub use smil_instances::Syncbase;
 use smil_instances::elements::{elements, places_of};
-use smil_model::Edge;
+use smil_model::{Edge, SerialTable};
 use smil_tree::Tree;
 use std::alloc::{AllocError, Global};
-use std::collections::HashMap;
 use std::marker::Model;
 
-/// What the items of each element of a document wait for, in document order.
+/// What the items of each element of a document wait for, and what its attributes tell, in document
+/// order.
 pub struct Syncs {
-    places: HashMap<u32, usize>,
+    places: SerialTable,
     rows: Vec<SyncbaseRow>,
 }
 
@@ -39,8 +41,8 @@ impl Drop for Syncs {
 }
 
 impl Model for Syncs {
-    ghost use Rattle.std.specs.Prelude.{List, nat_eq};
-    ghost use Rattle.std.specs.HashMap.{get};
+    ghost use Rattle.std.specs.Prelude.{List};
+    ghost use Rattle.std.specs.FinMap.{get};
     ghost use Rattle.smil_instances.specs.Spread.{IsIndex};
     ghost use Rattle.smil_past.specs.Syncs.{SyncRow, serials_in};
 
@@ -48,12 +50,12 @@ impl Model for Syncs {
 
     ghost view = { λ a. a.rows.items };
 
-    ghost invariant = { λ a. IsIndex (serials_in a.rows.items) (get nat_eq a.places) };
+    ghost invariant = { λ a. IsIndex (serials_in a.rows.items) (get a.places) };
 }
 
 impl Syncs {
-    /// What the items of a document wait for, unless memory runs out. The graph is that of the
-    /// tree.
+    /// What the items of a document wait for and its attributes tell, unless memory runs out. The
+    /// graph is that of the tree.
     pub fn of(alloc: Global, tree: &Tree, graph: &Graph) -> Result<Syncs, AllocError>
         requires { graph.now.nodes ≡ tree.now.nodes }
         ensures { IfOk result (λ syncs. syncs ≡ all_syncs tree.now.nodes) }
@@ -75,21 +77,43 @@ impl Syncs {
         ensures { (nodes : List AnyNode) (e : AnyNode) → self.now ≡ all_syncs nodes
             → node_at (elements nodes) who ≡ Some e → result.now ≡ syncs_of nodes side e }
     {
-        match self.places.get(&who).copied() {
-            Some(place) => side_at(&self.rows, place, side),
+        match self.row(who) {
+            Some(row) => row.side(side),
             None => &[],
+        }
+    }
+
+    /// What the attributes of an element tell; None where there is no such element. It takes no
+    /// memory.
+    pub fn makeup(&self, who: u32) -> Option<&Makeup>
+        ensures { (nodes : List AnyNode) (e : AnyNode) → self.now ≡ all_syncs nodes
+            → node_at (elements nodes) who ≡ Some e
+            → option_copied result ≡ Some (makeup_of nodes e) }
+    {
+        match self.row(who) {
+            Some(row) => Some(&row.makeup),
+            None => None,
+        }
+    }
+
+    // The row of an element.
+    fn row(&self, who: u32) -> Option<&SyncbaseRow>
+        ensures { (nodes : List AnyNode) (e : AnyNode) → self.now ≡ all_syncs nodes
+            → node_at (elements nodes) who ≡ Some e
+            → option_copied result ≡ Some (sync_row nodes e) }
+    {
+        match self.places.get(who) {
+            Some(place) => row_at(&self.rows, place),
+            None => None,
         }
     }
 }
 
-// A side of the row at a place; it is empty where there is none.
-fn side_at(rows: &[SyncbaseRow], place: usize, side: Edge) -> &[Syncbase]
-    ensures { result.now ≡ side_in side (slice_get rows.now place) }
+// The row at a place.
+fn row_at(rows: &[SyncbaseRow], place: usize) -> Option<&SyncbaseRow>
+    ensures { option_copied result ≡ slice_get rows.now place }
 {
-    match rows.get(place) {
-        Some(row) => row.side(side),
-        None => &[],
-    }
+    rows.get(place)
 }
 
 // The rows of the elements.
@@ -120,5 +144,6 @@ fn row_of(reader: &Reader, tree: &Tree, place: usize, who: u32) -> Result<Syncba
         serial: who,
         begins: reader.begin_syncs(place, who, &attrs.begin)?,
         ends: reader.end_syncs(place, who, &attrs.end)?,
+        makeup: makeup_of(tree, who),
     })
 }

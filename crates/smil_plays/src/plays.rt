@@ -14,8 +14,9 @@ use smil_cases::{Fault, Words, put_bytes, put_flag, put_number};
 use smil_diary::BookFault;
 use smil_instances::Instances;
 use smil_instances::elements::elements;
+use smil_interval::Steps;
 use smil_model::{
-    Bytes, Doc, HORIZON, Happening, LOG_ENTRIES, LogEntry, Order, SERIALS, Steps, Who, WordList,
+    Bytes, Doc, HORIZON, Happening, LOG_ENTRIES, LogEntry, Order, SERIALS, Who, WordList,
 };
 use smil_past::Past;
 use smil_plain::PlainCells;

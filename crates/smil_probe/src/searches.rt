@@ -5,8 +5,8 @@ ghost use Rattle.smil_interval.specs.Rising.{IsRising, IsRisingTimes};
 
 use super::rising::{rises, times_rise};
 use smil_cases::{Fault, Words, number, put_interval, time};
-use smil_interval::{EndList, Facts, evaluate, first_interval, next_interval};
-use smil_model::{Bytes, Count, Interval, Play, Restart, Steps, Time};
+use smil_interval::{EndList, Facts, Steps, evaluate, first_interval, next_interval};
+use smil_model::{Bytes, Count, Interval, Play, Restart, Time};
 use std::alloc::Global;
 use std::marker::Brand;
 use std::sync::ledger::{Blank, Ledger};

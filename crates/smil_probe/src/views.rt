@@ -8,14 +8,11 @@ ghost use Rattle.smil_model.specs.Times.{IsCarried};
 
 use smil_cases::{Fault, Words, natural, number};
 use smil_fill::{ViewFacts, view};
-use smil_model::{
-    Bytes, CARRIED, Fill, Interval, NAME_BYTES, Refusal, Shown, State, Time, View, Who,
-};
+use smil_model::{Bytes, CARRIED, Fill, Interval, NAME_BYTES, Refusal, Shown, State, Time, View};
 use smil_report::{
-    How, LAST_LINE_BYTES, REFUSAL_BYTES, put_change, put_closed, put_gone, put_history, put_ok,
-    put_refusal,
+    How, LAST_LINE_BYTES, Name, REFUSAL_BYTES, put_change, put_closed, put_gone, put_history,
+    put_ok, put_refusal,
 };
-use std::alloc::Global;
 
 /// `view FACTS`: the line of the view at moment 0. FACTS are the fields of `ViewFacts` in order,
 /// separated by spaces.
@@ -25,7 +22,7 @@ pub fn viewed(words: &mut Words<'_>, out: &mut Bytes) -> Result<(), Fault> {
         return Err(Fault::Refused);
     }
     let view = view(&facts);
-    put_change(out, 0, &Who::Serial(view.serial), &view)?;
+    put_change(out, 0, Name::Serial(view.serial), &view)?;
     Ok(())
 }
 
@@ -137,10 +134,10 @@ fn are_within(facts: &ViewFacts) -> bool
 }
 
 // A node as `#SERIAL` or by its id.
-fn who(alloc: Global, word: &str) -> Result<Who, Fault> {
+fn name(word: &str) -> Result<Name<'_>, Fault> {
     match word.strip_prefix('#') {
-        Some(rest) => Ok(Who::Serial(natural(rest)?)),
-        None => Ok(Who::Id(Bytes::of(alloc, word.as_bytes())?)),
+        Some(rest) => Ok(Name::Serial(natural(rest)?)),
+        None => Ok(Name::Id(word.as_bytes())),
     }
 }
 
@@ -170,9 +167,9 @@ fn state(word: &str) -> Result<State, Fault> {
 }
 
 /// `change MOMENT REF STATE BEGIN END ITERATION FINISHED`.
-pub fn change(alloc: Global, words: &mut Words<'_>, out: &mut Bytes) -> Result<(), Fault> {
+pub fn change(words: &mut Words<'_>, out: &mut Bytes) -> Result<(), Fault> {
     let moment = words.number()?;
-    let name = who(alloc, words.word()?)?;
+    let name = name(words.word()?)?;
     let view = View {
         serial: 1,
         state: state(words.word()?)?,
@@ -181,19 +178,19 @@ pub fn change(alloc: Global, words: &mut Words<'_>, out: &mut Bytes) -> Result<(
         iteration: words.natural()?,
         finished: words.natural()?,
     };
-    Ok(put_change(out, moment, &name, &view)?)
+    Ok(put_change(out, moment, name, &view)?)
 }
 
 /// `gone MOMENT REF`.
-pub fn gone(alloc: Global, words: &mut Words<'_>, out: &mut Bytes) -> Result<(), Fault> {
+pub fn gone(words: &mut Words<'_>, out: &mut Bytes) -> Result<(), Fault> {
     let moment = words.number()?;
-    let name = who(alloc, words.word()?)?;
-    Ok(put_gone(out, moment, &name)?)
+    let name = name(words.word()?)?;
+    Ok(put_gone(out, moment, name)?)
 }
 
 /// `history REF BEGIN END HOW`.
-pub fn history(alloc: Global, words: &mut Words<'_>, out: &mut Bytes) -> Result<(), Fault> {
-    let name = who(alloc, words.word()?)?;
+pub fn history(words: &mut Words<'_>, out: &mut Bytes) -> Result<(), Fault> {
+    let name = name(words.word()?)?;
     let begin = shown(words.word()?)?;
     let end = shown(words.word()?)?;
     let how = match words.word()? {
@@ -202,7 +199,7 @@ pub fn history(alloc: Global, words: &mut Words<'_>, out: &mut Bytes) -> Result<
         "playing" => How::Playing,
         _ => return Err(Fault::Refused),
     };
-    Ok(put_history(out, &name, begin, end, how)?)
+    Ok(put_history(out, name, begin, end, how)?)
 }
 
 /// `ok LINE NAME NOW`.

@@ -2,18 +2,25 @@
 
 ghost use Rattle.std.specs.Prelude.{◌≡◌, ◌++◌, List, map, OnOk, OnErr};
 ghost use Rattle.smil_model.specs.shown.Lines.{line_of, quoted, reference_text, serial_text, shown_text, state_text, how_text};
-ghost use Rattle.smil_report.specs.Words.{word_text};
+ghost use Rattle.smil_report.specs.Words.{who_of, word_text};
 ghost use Rattle.smil_model.specs.document.Words.{Begins};
 
 use itoa::{Buffer, Integer};
-use smil_model::{Bytes, How, Shown, State, Who};
+use smil_model::{Bytes, How, Shown, State};
 use std::alloc::AllocError;
+
+/// The name of a node: its id, or its serial where it has none.
+#[derive(Clone, Copy)]
+pub enum Name<'a> {
+    Id(&'a [u8]),
+    Serial(u32),
+}
 
 /// A word of a line.
 #[derive(Clone, Copy)]
 pub enum Word<'a> {
     Text(&'a [u8]),
-    Name(&'a Who),
+    Name(Name<'a>),
     /// A node by its serial.
     Serial(u32),
     /// A text between quotes.
@@ -59,13 +66,13 @@ fn put_number<I: Integer>(out: &mut Bytes, number: I) -> Result<(), AllocError>
 }
 
 // Appends the id or the serial of an element.
-fn put_name(out: &mut Bytes, name: &Who) -> Result<(), AllocError>
-    ensures ok { OnOk result (out.new ≡ out.old ++ reference_text name.now) }
+fn put_name(out: &mut Bytes, name: Name<'_>) -> Result<(), AllocError>
+    ensures ok { OnOk result (out.new ≡ out.old ++ reference_text (who_of name.entry)) }
     ensures err { OnErr result (Begins out.old out.new) }
 {
     match name {
-        Who::Id(id) => out.append(id.slice()),
-        Who::Serial(serial) => put_serial(out, *serial),
+        Name::Id(id) => out.append(id),
+        Name::Serial(serial) => put_serial(out, serial),
     }
 }
 

@@ -1,6 +1,6 @@
 //! What is known of each element.
 
-ghost use Rattle.std.specs.Prelude.{◌≡◌, ◌==◌, ◌≤◌, ◌+◌, map, slice_set, slice_get, Some, true, IfOk, IfSome, OnOk};
+ghost use Rattle.std.specs.Prelude.{◌≡◌, ◌↔◌, IsTrue, ◌==◌, ◌≤◌, ◌+◌, map, slice_set, slice_get, Some, true, IfOk, IfSome, OnOk};
 ghost use Rattle.std.specs.List.{position};
 ghost use Rattle.smil_model.specs.declared.document.Node.{Node as AnyNode};
 ghost use Rattle.smil_model.specs.document.Document.{elements, node_at};
@@ -14,13 +14,13 @@ ghost use Rattle.smil_rounds.specs.Rows.{IsChosen, empty_row, row_without};
 
 use smil_element::{
     Container, Containers, DueChange, DueChanges, Intervals, Present, Room, comings_of,
-    evaluation_of, walked_duration,
+    evaluation_of, is_same_coming, walked_duration,
 };
 use smil_instances::elements::elements;
-use smil_model::{ChildEnd, Duplicate, HasSerial, Interval, Key, Steps, Time, first_places};
+use smil_interval::{Steps, is_same_interval};
+use smil_model::{ChildEnd, Duplicate, HasSerial, Interval, Key, SerialTable, Time, first_places};
 use smil_tree::Tree;
 use std::alloc::{AllocError, Global};
-use std::collections::HashMap;
 use std::marker::Model;
 use std::sync::ledger::Ledger;
 
@@ -53,12 +53,12 @@ pub struct IndexedElement<'a> {
 #[derive(Drop)]
 pub struct CurrentRows {
     rows: Vec<CurrentRow>,
-    places: HashMap<u32, usize>,
+    places: SerialTable,
 }
 
 impl Model for CurrentRows {
-    ghost use Rattle.std.specs.Prelude.{List, nat_eq};
-    ghost use Rattle.std.specs.HashMap.{get};
+    ghost use Rattle.std.specs.Prelude.{List};
+    ghost use Rattle.std.specs.FinMap.{get};
     ghost use Rattle.smil_rounds.specs.Rows.{AreNear, ArePlaces};
     ghost use Rattle.smil_rounds.specs.declared.current_rows.CurrentRow.{CurrentRow as AnyRow};
 
@@ -66,7 +66,7 @@ impl Model for CurrentRows {
 
     ghost view = { λ a. a.rows.items };
 
-    ghost invariant = { λ a. AreNear a.rows.items × ArePlaces (get nat_eq a.places) a.rows.items };
+    ghost invariant = { λ a. AreNear a.rows.items × ArePlaces (get a.places) a.rows.items };
 }
 
 impl Intervals for CurrentRows {
@@ -75,8 +75,8 @@ impl Intervals for CurrentRows {
     ghost given = { interval_in };
 
     fn interval(&self, who: u32) -> Option<Interval> {
-        let index = self.places.get(&who)?;
-        self.rows.get(*index)?.interval
+        let index = self.places.get(who)?;
+        self.rows.get(index)?.interval
     }
 }
 
@@ -128,7 +128,7 @@ impl CurrentRows {
     pub fn index_of(&self, who: u32) -> Option<usize>
         ensures { result ≡ position (λ (r : AnyRow). r.serial == who) self.now }
     {
-        self.places.get(&who).copied()
+        self.places.get(who)
     }
 
     /// Puts a row in the place of the one that its element has. It takes no memory.
@@ -188,6 +188,16 @@ pub fn row_of<J: Containers, L: Ledger>(
         interval: made.interval,
         comings,
     })
+}
+
+/// Whether two rows are the same. It takes no memory.
+pub fn is_same_row(one: &CurrentRow, other: &CurrentRow) -> bool
+    ensures { IsTrue result ↔ (one.now ≡ other.now) }
+{
+    one.serial == other.serial
+        && is_same_interval(one.interval, other.interval)
+        && is_same_coming(&one.comings.moved, &other.comings.moved)
+        && is_same_coming(&one.comings.repeat, &other.comings.repeat)
 }
 
 // Of what comes of an element the begin or end where that has this key, else the repeat.

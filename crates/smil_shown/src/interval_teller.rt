@@ -7,11 +7,12 @@ ghost use Rattle.smil_model.specs.diary.Lawful.{IsLawful};
 ghost use Rattle.smil_laws.specs.Near.{AllNear, HasNear};
 ghost use Rattle.smil_stretch.specs.Clocks.{AreClocksOf, MayFollow};
 ghost use Rattle.smil_model.specs.document.Words.{Begins};
+ghost use Rattle.smil_report.specs.Words.{who_of};
 ghost use Rattle.smil_shown.specs.Histories.{IsTold, MayTell, begin_after, closed_text, finish_line, told_begin};
 
 use smil_diary::Book;
-use smil_model::{Bytes, Entry, How, Shown, Step, Who};
-use smil_report::put_history;
+use smil_model::{Bytes, Entry, How, Shown, Step};
+use smil_report::{Name, put_history};
 use smil_stretch::Clocks;
 use smil_tree::Tree;
 use std::alloc::{AllocError, Global};
@@ -51,12 +52,17 @@ impl IntervalTeller {
 
     /// Takes in the entries of a diary, and appends the lines of the intervals that have finished.
     /// Where memory is refused, some of the lines stand in `out`.
-    pub fn follow_all(&mut self, book: &Book, name: &Who, out: &mut Bytes) -> Result<(), AllocError>
-        requires may { MayTell book.now name.now self.old out.old }
+    pub fn follow_all(
+        &mut self,
+        book: &Book,
+        name: Name<'_>,
+        out: &mut Bytes,
+    ) -> Result<(), AllocError>
+        requires may { MayTell book.now (who_of name) self.old out.old }
         requires near { AllNear book.now }
         ensures told { (h : History) (start : List ℕ) → h.diary ≡ book.now → IsLawful h
-            → IsTold (up_to h []) name.now start self.old out.old
-            → OnOk result (IsTold h name.now start self.new out.new) }
+            → IsTold (up_to h []) (who_of name.entry) start self.old out.old
+            → OnOk result (IsTold h (who_of name.entry) start self.new out.new) }
         ensures who { self.new.who ≡ self.old.who }
         ensures begins { Begins out.old out.new }
     {
@@ -67,12 +73,12 @@ impl IntervalTeller {
     }
 
     // Takes in an entry, and appends the line of the interval that it finishes.
-    fn follow(&mut self, entry: Entry, name: &Who, out: &mut Bytes) -> Result<(), AllocError>
+    fn follow(&mut self, entry: Entry, name: Name<'_>, out: &mut Bytes) -> Result<(), AllocError>
         requires follows { MayFollow self.old.clocks entry }
         requires near { HasNear entry.step }
-        ensures told { (h : History) (start : List ℕ) → IsTold h name.now start self.old out.old
-            → IsLawful (with_entry h entry)
-            → OnOk result (IsTold (with_entry h entry) name.now start self.new out.new) }
+        ensures told { (h : History) (start : List ℕ)
+            → IsTold h (who_of name.entry) start self.old out.old → IsLawful (with_entry h entry)
+            → OnOk result (IsTold (with_entry h entry) (who_of name.entry) start self.new out.new) }
         ensures who { self.new.who ≡ self.old.who }
         ensures begins { Begins out.old out.new }
     {
@@ -83,7 +89,7 @@ impl IntervalTeller {
 
     // Tells what an entry makes of the element's play: the begin of its present one, and the line
     // of the interval that it finishes.
-    fn tell(&mut self, entry: Entry, name: &Who, out: &mut Bytes) -> Result<(), AllocError>
+    fn tell(&mut self, entry: Entry, name: Name<'_>, out: &mut Bytes) -> Result<(), AllocError>
         requires follows { MayFollow self.old.clocks entry }
         requires near { HasNear entry.step }
         ensures present { (h : History) → AreClocksOf self.old.clocks h
@@ -91,7 +97,8 @@ impl IntervalTeller {
             → self.new.present ≡ begin_after h entry self.old.who }
         ensures text { (h : History) → AreClocksOf self.old.clocks h → IsLawful (with_entry h entry)
             → self.old.present ≡ told_begin h self.old.who
-            → OnOk result (out.new ≡ out.old ++ closed_text h entry self.old.who name.now) }
+            → OnOk result (out.new ≡ out.old
+            ++ closed_text h entry self.old.who (who_of name.entry)) }
         ensures who { self.new.who ≡ self.old.who }
         ensures clocks { self.new.clocks ≡ self.old.clocks }
         ensures begins { Begins out.old out.new }
@@ -112,9 +119,15 @@ impl IntervalTeller {
     }
 
     // Appends the line of the present play, which finishes at a moment of document time.
-    fn finish(&mut self, end: i64, how: How, name: &Who, out: &mut Bytes) -> Result<(), AllocError>
+    fn finish(
+        &mut self,
+        end: i64,
+        how: How,
+        name: Name<'_>,
+        out: &mut Bytes,
+    ) -> Result<(), AllocError>
         ensures ok { OnOk result (out.new ≡ out.old
-            ++ finish_line name.now self.old.present end how) }
+            ++ finish_line (who_of name.entry) self.old.present end how) }
         ensures err { OnErr result (out.new ≡ out.old) }
         ensures present { self.new.present ≡ None }
         ensures who { self.new.who ≡ self.old.who }

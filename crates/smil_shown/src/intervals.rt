@@ -9,20 +9,21 @@ ghost use Rattle.smil_model.specs.shown.Views.{shown_time, view_facts};
 ghost use Rattle.smil_laws.specs.Near.{IsTimeNear};
 ghost use Rattle.smil_model.specs.document.Words.{Begins};
 ghost use Rattle.smil_model.specs.shown.Answers.{told_line};
+ghost use Rattle.smil_report.specs.Words.{who_of};
 ghost use Rattle.smil_cells.specs.CellsState.{IsSettled, history_of};
 ghost use Rattle.smil_shown.specs.Histories.{end_at, present_line};
 
 use super::interval_teller::IntervalTeller;
 use smil_cells::{Cells, Table};
-use smil_model::{Bytes, How, Shown, Time, Who};
-use smil_report::put_history;
+use smil_model::{Bytes, How, Shown, Time};
+use smil_report::{Name, put_history};
 use std::alloc::{AllocError, Global};
 
 /// An element whose intervals are told, with the name that its lines have.
 #[derive(Clone, Copy)]
 pub struct Subject<'a> {
     pub serial: u32,
-    pub name: &'a Who,
+    pub name: Name<'a>,
 }
 
 /// Appends the lines of the intervals of an element, in order. The clocks are followed again from
@@ -42,7 +43,7 @@ pub fn put_intervals<T: Table>(
         (elements cells.now.presentation.document.nodes) subject.serial ≡ Some e) }
     ensures told { (e : AnyNode) → node_at (elements cells.now.presentation.document.nodes)
         subject.entry.serial ≡ Some e → OnOk result (out.new ≡ out.old
-        ++ flat_map (told_line subject.entry.name.now) (intervals_of (history_of cells.now)
+        ++ flat_map (told_line (who_of subject.entry.name)) (intervals_of (history_of cells.now)
         (pos cells.now.presentation.now) e)) }
     ensures begins { Begins out.old out.new }
 {
@@ -63,7 +64,7 @@ fn put_present<T: Table>(
     requires state { IsState cells.now.presentation }
     requires settled { IsSettled cells.now }
     ensures ok { (e : AnyNode) → e.serial ≡ subject.entry.serial
-        → OnOk result (out.new ≡ out.old ++ present_line subject.entry.name.now begin
+        → OnOk result (out.new ≡ out.old ++ present_line (who_of subject.entry.name) begin
         (end_at (history_of cells.now) (pos cells.now.presentation.now) e)) }
     ensures err { OnErr result (out.new ≡ out.old) }
 {

@@ -1,18 +1,19 @@
 //! Lines of what changes.
 
-ghost use Rattle.std.specs.Prelude.{◌≡◌, [], ◌∷◌, ◌++◌, ℕ, pos, Some, IsSome, IfOk, OnOk, OnErr};
+ghost use Rattle.std.specs.Prelude.{◌≡◌, [], ◌∷◌, ◌++◌, ℕ, pos, Some, IsSome, OnOk, OnErr};
 ghost use Rattle.smil_model.specs.declared.document.Node.{Node as AnyNode};
 ghost use Rattle.smil_model.specs.document.Document.{node_at};
 ghost use Rattle.smil_model.specs.shown.Answers.{name_in};
 ghost use Rattle.smil_model.specs.shown.Lines.{change_line};
 ghost use Rattle.smil_model.specs.document.Words.{Begins};
+ghost use Rattle.smil_report.specs.Words.{who_of};
 ghost use Rattle.smil_shown.specs.ViewTable.{AreOf};
 ghost use Rattle.smil_shown.specs.Told.{lines_between, lines_gone, lines_of};
 
 use super::same::is_same;
 use super::view_table::ViewTable;
-use smil_model::{Bytes, Duplicate, View, Who};
-use smil_report::{put_change, put_gone};
+use smil_model::{Bytes, View};
+use smil_report::{Name, put_change, put_gone};
 use smil_tree::Tree;
 use std::alloc::AllocError;
 
@@ -24,14 +25,14 @@ pub struct Scene<'a> {
     pub moment: i64,
 }
 
-/// A node by its id, or by its serial where it has none; unless memory runs out.
-pub fn name_of(tree: &Tree, serial: u32) -> Result<Who, AllocError>
+/// A node by its id, or by its serial where it has none. It takes no memory.
+pub fn name_of(tree: &Tree, serial: u32) -> Name<'_>
     requires { IsSome (node_at tree.now.nodes serial) }
-    ensures { IfOk result (λ name. name ≡ name_in tree.now.nodes serial) }
+    ensures { who_of result ≡ name_in tree.now.nodes serial }
 {
     match &tree.attrs(serial).id {
-        Some(id) => Ok(Who::Id(id.copy()?)),
-        None => Ok(Who::Serial(serial)),
+        Some(id) => Name::Id(id.slice()),
+        None => Name::Serial(serial),
     }
 }
 
@@ -42,8 +43,7 @@ pub fn put_view(scene: Scene<'_>, view: &View, out: &mut Bytes) -> Result<(), Al
         (name_in scene.entry.tree.now.nodes view.now.serial) view.now) }
     ensures err { OnErr result (out.new ≡ out.old) }
 {
-    let name = name_of(scene.tree, view.serial)?;
-    put_change(out, scene.moment, &name, view)
+    put_change(out, scene.moment, name_of(scene.tree, view.serial), view)
 }
 
 /// Appends the lines of the views that differ from those before, in the order of the views. Where
@@ -130,8 +130,7 @@ fn put_where_gone(
     ensures err { OnErr result (out.new ≡ out.old) }
 {
     if scene.tree.kind(serial).is_element() && after.position(serial).is_none() {
-        let name = name_of(scene.tree, serial)?;
-        put_gone(out, scene.moment, &name)
+        put_gone(out, scene.moment, name_of(scene.tree, serial))
     } else {
         Ok(())
     }

@@ -13,16 +13,15 @@ use super::same::is_same;
 use smil_cells::{Cells, Table};
 use smil_element::{Present, view_of};
 use smil_instances::elements::elements;
-use smil_model::{Shown, State, View, first_places};
+use smil_model::{SerialTable, Shown, State, View, first_places};
 use std::alloc::{AllocError, Global};
-use std::collections::HashMap;
 use std::marker::Model;
 
 /// The views of elements in document order, one of each element. Where a view is changed, the one
 /// before is noted, until `back` or `forget`. Seen as the views, with those that `back` gives.
 pub struct ViewTable {
     rows: Vec<View>,
-    places: HashMap<u32, usize>,
+    places: SerialTable,
     noted: Vec<View>,
 }
 
@@ -38,8 +37,7 @@ impl Drop for ViewTable {
 }
 
 impl Model for ViewTable {
-    ghost use Rattle.std.specs.Prelude.{nat_eq};
-    ghost use Rattle.std.specs.HashMap.{get};
+    ghost use Rattle.std.specs.FinMap.{get};
     ghost use Rattle.smil_shown.specs.ViewTable.{ViewLists as AnyShown, AreAt, put_back};
 
     ghost Value = { AnyShown };
@@ -47,7 +45,7 @@ impl Model for ViewTable {
     ghost view = { λ s.
         record { views = s.rows.items; before = put_back s.rows.items s.noted.items } };
 
-    ghost invariant = { λ s. AreAt (get nat_eq s.places) s.rows.items };
+    ghost invariant = { λ s. AreAt (get s.places) s.rows.items };
 }
 
 impl ViewTable {
@@ -57,7 +55,7 @@ impl ViewTable {
     {
         ViewTable {
             rows: Vec::new(alloc),
-            places: HashMap::new(alloc),
+            places: SerialTable::new(alloc),
             noted: Vec::new(alloc),
         }
     }
@@ -94,8 +92,8 @@ impl ViewTable {
     pub fn view(&self, serial: u32) -> View
         ensures { result ≡ view_among self.now.views serial }
     {
-        match self.places.get(&serial) {
-            Some(place) => self.rows[*place],
+        match self.places.get(serial) {
+            Some(place) => self.rows[place],
             None => blank(serial),
         }
     }
@@ -108,7 +106,7 @@ impl ViewTable {
         ensures ok { OnOk result (self.new ≡ with_view self.old view) }
         ensures err { OnErr result (self.new ≡ self.old) }
     {
-        let place = *self.places.get(&view.serial).unwrap();
+        let place = self.places.get(view.serial).unwrap();
         if is_same(&view, &self.rows[place]) {
             return Ok(false);
         }
@@ -122,8 +120,8 @@ impl ViewTable {
         ensures { self.new ≡ record { views = self.old.before; before = self.old.before } }
     {
         while let Some(view) = self.noted.pop() {
-            if let Some(place) = self.places.get(&view.serial) {
-                self.rows[*place] = view;
+            if let Some(place) = self.places.get(view.serial) {
+                self.rows[place] = view;
             }
         }
     }

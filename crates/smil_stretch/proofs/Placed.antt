@@ -1,16 +1,16 @@
 -- The places of nodes and of their time parents.
-use Rattle.std.proofs.Common.{◌≡◌, refl, ◌∙◌, ap, ℕ, zero, suc, ◌+◌, ◌≤◌, ◌<◌, List, [], ◌∷◌, Option, Some, None, Bool, true, false, length, get_or, arith, inl, inr}
-use Rattle.std.specs.Prelude.{cond, not, ◌==◌, ◌||◌, ◌⊎◌, take, slice_get, option_map, option_and_then}
+use Rattle.std.proofs.Common.{◌≡◌, refl, ◌∙◌, ap, ℕ, zero, suc, ◌+◌, ◌≤◌, ◌<◌, List, [], ◌∷◌, Some, None, Bool, true, false, length, get_or, arith, inl, inr}
+use Rattle.std.specs.Prelude.{cond, not, ◌==◌, ◌||◌, ◌⊎◌, take, slice_get, option_and_then}
 use Rattle.std.specs.List.{AllByRecursion, list_any, position, position_or_len}
 use Rattle.std.proofs.lemmas.Bool.{lt-ltb, eqb-true, eq-eqb, or_right}
 use Rattle.std.proofs.lemmas.List.Folds.{find_at}
-use Rattle.std.proofs.lemmas.Option.{slice_get_cases, slice_get_within, same_Some}
+use Rattle.std.proofs.lemmas.Option.{slice_get_cases, slice_get_within}
 use Rattle.smil_model.specs.declared.document.Node.{Node}
 use Rattle.smil_model.specs.document.Document.{time_parent}
 use Rattle.smil_model.specs.document.Valid.{IsDistinct}
 use Rattle.smil_laws.proofs.Aside.{find_true}
 use Rattle.smil_laws.proofs.Lists.{each_weaker}
-use Rattle.smil_stretch.specs.Clocks.{parent_place}
+use Rattle.smil_tree.specs.Outline.{parent_place}
 use Rattle.smil_stretch.proofs.Above.{parent_before}
 
 abbrev pub place : ℕ → List Node → ℕ
@@ -76,11 +76,3 @@ parent_at_place ns i n p d at under = record {
 
 pub no_parent_place : (ns : List Node) (s : ℕ) → time_parent ns s ≡ None → parent_place ns s ≡ None
 no_parent_place ns s q = ap (option_and_then (λ (p : Node). position (λ (m : Node). m.serial == p.serial) ns)) q
-
--- the place of the time parent by its serial
-pub place_of_serial : (ns : List Node) (s p : ℕ) → Some p ≡ option_map (λ (n : Node). n.serial) (time_parent ns s) → position (λ (n : Node). n.serial == p) ns ≡ parent_place ns s
-place_of_serial ns s p q = by_parent (time_parent ns s) q
-  where
-    by_parent : (o : Option Node) → Some p ≡ option_map (λ (n : Node). n.serial) o → position (λ (n : Node). n.serial == p) ns ≡ option_and_then (λ (n : Node). position (λ (m : Node). m.serial == n.serial) ns) o
-    by_parent None r = cc
-    by_parent (Some n) r = ap (λ x. position (λ (m : Node). m.serial == x) ns) (same_Some p n.serial r)

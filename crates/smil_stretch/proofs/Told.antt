@@ -15,7 +15,8 @@ use Rattle.smil_model.specs.diary.Clocks.{until, elapsed, run, outer, outer_unde
 use Rattle.smil_laws.proofs.Aside.{find_true}
 use Rattle.smil_laws.proofs.Members.{found_held}
 use Rattle.smil_stretch.specs.declared.clock.NodeClock.{NodeClock}
-use Rattle.smil_stretch.specs.Clocks.{shown, is_standing, clock_by, clock_of, node_clock, parent_place, AreClocksOf}
+use Rattle.smil_stretch.specs.Clocks.{shown, is_standing, clock_by, clock_of, node_clock, AreClocksOf}
+use Rattle.smil_tree.specs.Outline.{parent_place}
 use Rattle.smil_stretch.specs.NodeClocks.{clock_at, at_place, parent_at, shown_by, stands_by, paused_by}
 use Rattle.smil_stretch.proofs.Moments.{run_later}
 use Rattle.smil_stretch.proofs.Above.{known_element}
@@ -130,3 +131,9 @@ module _ (clocks : List NodeClock) (h : History) (are : AreClocksOf clocks h) wh
   outer_stands_told s =
       parent_clock s Bool stands_by (stands_under h) refl
       (λ n p same. standing (stands h n.serial) (run h n.serial (last_moment h.diary)) (last_moment h.diary) ∙ ap (stands h) same)
+
+-- ---- a value between two clocks, of which none stands
+
+pub running : (stand : Bool) (value told : ℤ) → stand ≡ false → value ≡ told → Some value ≡ cond stand None (Some told)
+running true value told run is = cc
+running false value told run is = ap Some is

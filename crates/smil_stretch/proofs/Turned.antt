@@ -19,7 +19,8 @@ use Rattle.smil_laws.proofs.Below.{each_upwards}
 use Rattle.smil_laws.proofs.Lists.{each_at}
 use Rattle.smil_diary.specs.Places.{is_from}
 use Rattle.smil_stretch.specs.declared.clock.NodeClock.{NodeClock}
-use Rattle.smil_stretch.specs.Clocks.{shown, clock_by, clock_of, node_clock, clocks_of, parent_place}
+use Rattle.smil_stretch.specs.Clocks.{shown, clock_by, clock_of, node_clock, clocks_of}
+use Rattle.smil_tree.specs.Outline.{parent_place}
 use Rattle.smil_stretch.specs.NodeClocks.{at_place, stands_by, IsTurned, Turns}
 use Rattle.smil_stretch.proofs.Moments.{clock_with, clock_same}
 use Rattle.smil_stretch.proofs.Above.{any_in, any_under, none_in, others_before, others_after, lineage_before, any_node, known_element, Clear, Known, clear_after}

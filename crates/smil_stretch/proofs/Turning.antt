@@ -2,8 +2,6 @@
 use Rattle.std.proofs.Common.{◌≡◌, refl, sym, ◌∙◌, ap, subst, ℕ, suc, ◌+◌, ◌<◌, List, [], ◌∷◌, ◌++◌, Option, Some, None, Bool, true, false, length, arith}
 use Rattle.std.specs.Prelude.{cond, not, pos, ◌==◌, ◌||◌, ◌≤ℤ◌, nat_lt, map, set, slice_get, option_map, is_some}
 use Rattle.std.specs.List.{list_any, position, position_or_len}
-use Rattle.std.specs.Option.{option_copied}
-use Rattle.std.specs.Borrow.{Bor}
 use Rattle.std.proofs.lemmas.Bool.{ltb-true, lt-ltb}
 use Rattle.std.proofs.lemmas.List.{length-map}
 use Rattle.std.proofs.lemmas.List.Elements.{All-nil, All-cons}
@@ -68,10 +66,6 @@ known_place clocks h s are known =
     ap (λ cs. is_some (position (λ (c : NodeClock). c.serial == s) cs)) are.value
     ∙ ap is_some (clock_position h s h.nodes)
     ∙ ap (λ t. is_some (cond t (Some (place s h.nodes)) None)) (lt-ltb (place s h.nodes) (length h.nodes) (inside s h.nodes (found_held is_element s h.nodes known)))
-
-pub some_lent : (r : Option (Bor ℕ)) → is_some (option_copied r) ≡ true → is_some r ≡ true
-some_lent None q = q
-some_lent (Some x) q = refl
 
 place_is : (h : History) (s k : ℕ) → Some k ≡ position (λ (c : NodeClock). c.serial == s) (clocks_of h) → IsFound h.nodes s k
 place_is h s k q = by_test (nat_lt (place s h.nodes) (length h.nodes)) refl (q ∙ clock_position h s h.nodes)

@@ -1,16 +1,16 @@
 -- The clocks of a document after what has happened so far: one for each node,
 -- which runs or stands since the last entry.
-use Rattle.std.specs.Prelude.{◌≡◌, ℕ, ℤ, ◌-ℤ◌, List, map, Bool, true, false, ◌&&◌, ◌==◌, Option, option_and_then}
-use Rattle.std.specs.List.{position}
+use Rattle.std.specs.Prelude.{◌≡◌, ℕ, ℤ, ◌-ℤ◌, List, map, Bool, true, false, ◌&&◌, ◌==◌}
 use Rattle.smil_model.specs.declared.diary.Entry.{Entry}
 use Rattle.smil_model.specs.declared.diary.Step.{Step}
 use Rattle.smil_model.specs.declared.diary.Step.TheVariants.{Resumed, Ended, Cut}
 use Rattle.smil_model.specs.declared.document.Node.{Node}
-use Rattle.smil_model.specs.document.Document.{Document, is_element, time_parent}
+use Rattle.smil_model.specs.document.Document.{Document, is_element}
 use Rattle.smil_model.specs.document.Valid.{IsNumberedTree}
 use Rattle.smil_model.specs.diary.Diary.{History, is_paused, with_entry, last_moment}
 use Rattle.smil_model.specs.diary.Lawful.{IsLawful}
 use Rattle.smil_model.specs.diary.Clocks.{run, stands}
+use Rattle.smil_tree.specs.Outline.{parent_place}
 use Rattle.smil_stretch.specs.declared.clock.Clock.{Clock}
 use Rattle.smil_stretch.specs.declared.clock.Clock.TheVariants.{Runs, Stands}
 use Rattle.smil_stretch.specs.declared.clock.NodeClock.{NodeClock}
@@ -34,12 +34,6 @@ clock_by false time moment = Runs (moment -ℤ time)
 abbrev pub clock_of : History → ℕ → Clock
 clock_of h serial =
     clock_by (stands h serial) (run h serial (last_moment h.diary)) (last_moment h.diary)
-
--- the place of the time parent in document order
-abbrev pub parent_place : List Node → ℕ → Option ℕ
-parent_place nodes serial =
-    option_and_then (λ (p : Node). position (λ (n : Node). n.serial == p.serial) nodes)
-    (time_parent nodes serial)
 
 -- the clock of a node, which for a priorityClass is that of its excl
 abbrev pub node_clock : History → Node → NodeClock

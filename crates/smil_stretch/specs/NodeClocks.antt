@@ -10,7 +10,8 @@ use Rattle.smil_diary.specs.Places.{is_from}
 use Rattle.smil_stretch.specs.declared.clock.Clock.{Clock}
 use Rattle.smil_stretch.specs.declared.clock.Clock.TheVariants.{Runs, Stands}
 use Rattle.smil_stretch.specs.declared.clock.NodeClock.{NodeClock}
-use Rattle.smil_stretch.specs.Clocks.{shown, is_standing, clock_by, parent_place, MayFollow}
+use Rattle.smil_stretch.specs.Clocks.{shown, is_standing, clock_by, MayFollow}
+use Rattle.smil_tree.specs.Outline.{parent_place}
 use Rattle.smil_model.specs.Times.{IsMoment}
 
 -- the number of a clock is a moment

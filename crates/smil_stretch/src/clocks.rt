@@ -1,7 +1,6 @@
 //! The clocks of a document.
 
-ghost use Rattle.std.specs.Prelude.{◌≡◌, ◌≤ℤ◌, true, Some, None, IsSome, IfOk, IfSome, map};
-ghost use Rattle.smil_model.specs.document.Document.{node_at};
+ghost use Rattle.std.specs.Prelude.{◌≡◌, ◌≤ℤ◌, ◌||◌, if◌then◌else◌, true, Some, None, IfOk, IfSome, map};
 ghost use Rattle.smil_model.specs.document.Valid.{IsNumberedTree};
 ghost use Rattle.smil_model.specs.diary.Diary.{History, is_paused as paused_in, with_entry, last_moment};
 ghost use Rattle.smil_model.specs.diary.Lawful.{IsLawful, has_element};
@@ -9,17 +8,16 @@ ghost use Rattle.smil_model.specs.diary.Clocks.{run as run_of, outer as outer_of
 ghost use Rattle.smil_model.specs.declared.diary.Entry.{Entry as AnyEntry};
 ghost use Rattle.smil_model.specs.declared.diary.Step.{Step as AnyStep};
 ghost use Rattle.smil_model.specs.declared.diary.Step.TheVariants as step;
-ghost use Rattle.smil_stretch.specs.Clocks.{AreClocksOf, IsHistoryOf, IsLawfulFor, MayEndPause, MayFollow, ends_pause, parent_place};
+ghost use Rattle.smil_stretch.specs.Clocks.{AreClocksOf, IsHistoryOf, IsLawfulFor, MayEndPause, MayFollow, ends_pause};
 ghost use Rattle.smil_model.specs.Times.{IsCarried, IsMoment, IsNear};
 ghost use Rattle.smil_stretch.specs.NodeClocks.{AllFit, Fits, MayTurn, Turns, clock_at, idle_clock, parent_at};
 
 use super::clock::{Clock, NodeClock, shown_by, stands_by};
 use super::refresh::refresh;
 use smil_diary::Book;
-use smil_model::{Duplicate, Entry, Step, first_places};
+use smil_model::{Duplicate, Entry, SerialTable, Step, first_places};
 use smil_tree::Tree;
 use std::alloc::{AllocError, Global};
-use std::collections::HashMap;
 use std::marker::Model;
 
 /// The clocks of a document after what has happened so far, seen as the clock of each node in
@@ -27,7 +25,7 @@ use std::marker::Model;
 /// and is behind document time by what it lost, or stands while its element or one above it is
 /// paused.
 pub struct Clocks {
-    places: HashMap<u32, usize>,
+    places: SerialTable,
     clocks: Vec<NodeClock>,
 }
 
@@ -42,8 +40,8 @@ impl Drop for Clocks {
 }
 
 impl Model for Clocks {
-    ghost use Rattle.std.specs.Prelude.{List, nat_eq};
-    ghost use Rattle.std.specs.HashMap.{get};
+    ghost use Rattle.std.specs.Prelude.{List};
+    ghost use Rattle.std.specs.FinMap.{get};
     ghost use Rattle.smil_stretch.specs.declared.clock.NodeClock.{NodeClock as AnyClock};
     ghost use Rattle.smil_stretch.specs.NodeClocks.{AllFit, ArePlacesOf};
 
@@ -52,7 +50,7 @@ impl Model for Clocks {
     ghost view = { λ a. a.clocks.items };
 
     ghost invariant = { λ a.
-        ArePlacesOf (get nat_eq a.places) a.clocks.items × AllFit a.clocks.items };
+        ArePlacesOf (get a.places) a.clocks.items × AllFit a.clocks.items };
 }
 
 impl Duplicate for Clocks {
@@ -177,6 +175,24 @@ impl Clocks {
         self.outer(to, moment) + (value - self.outer(from, moment))
     }
 
+    /// A value on the clock of the time parent of `from`, on that of the time parent of `to`, at a
+    /// moment from 0 to 10^12; None where one of these two clocks stands. The value is from -10^13
+    /// to 10^13. It takes no memory.
+    pub fn running_between(&self, from: u32, to: u32, value: i64, moment: i64) -> Option<i64>
+        requires value { IsCarried value }
+        requires moment { IsMoment moment }
+        ensures { (h : History) → AreClocksOf self.now h → last_moment h.diary ≤ℤ moment → result
+            ≡ (if outer_stands_of h to || outer_stands_of h from then None
+            else Some (between_clocks h from to value moment)) }
+    {
+        let own = self.parent(to);
+        let other = self.parent(from);
+        if stands_by(own) || stands_by(other) {
+            return None;
+        }
+        Some(shown_by(own, moment) + (value - shown_by(other, moment)))
+    }
+
     // The clocks of a document to which nothing has happened yet.
     fn new(alloc: Global, tree: &Tree) -> Result<Self, AllocError>
         requires { IsNumberedTree tree.now }
@@ -201,8 +217,8 @@ impl Clocks {
         ensures value { result ≡ clock_at self.now who }
         ensures fits { IfSome result (λ n. Fits n.clock) }
     {
-        let place = self.places.get(&who)?;
-        self.clocks.get(*place).copied()
+        let place = self.places.get(who)?;
+        self.clocks.get(place).copied()
     }
 
     // The clock of the time parent of a node.
@@ -231,7 +247,7 @@ impl Clocks {
         ensures { (h : History) (y : AnyEntry) → AreClocksOf self.old h → IsLawful (with_entry h y)
             → Turns h y who paused → y.moment ≡ moment → AreClocksOf self.new (with_entry h y) }
     {
-        let place = *self.places.get(&who).unwrap();
+        let place = self.places.get(who).unwrap();
         self.clocks[place].paused = paused;
         refresh(&mut self.clocks, place, moment);
     }
@@ -248,19 +264,10 @@ fn idle_clocks(alloc: Global, tree: &Tree) -> Result<Vec<NodeClock>, AllocError>
     for node in tree.nodes() {
         clocks.push(NodeClock {
             serial: node.serial,
-            parent: parent_place(tree, node.serial),
+            parent: tree.parent_place(node.serial),
             paused: false,
             clock: Clock::Runs { lost: 0 },
         })?;
     }
     Ok(clocks)
-}
-
-/// The place of the time parent of a node in document order; None where it has none. It takes no
-/// memory.
-pub fn parent_place(tree: &Tree, serial: u32) -> Option<usize>
-    requires { IsSome (node_at tree.now.nodes serial) }
-    ensures { result ≡ parent_place tree.now.nodes serial }
-{
-    tree.position(tree.time_parent(serial)?)
 }

@@ -3,3 +3,4 @@ pub mod Levels
 pub mod Spines
 pub mod Pushes
 pub mod Blanked
+pub mod Plain

@@ -1,5 +1,5 @@
 -- Which lines of an outline are kept, line by line.
-use Rattle.std.specs.Prelude.{ℕ, ◌+◌, ◌-◌, ◌/◌, ◌%◌, Bool, true, false, not, ◌&&◌, ◌||◌, List, [], ◌∷◌, ◌++◌, take, drop, count_by, replicate, Option, Some, None, slice_get, Result, Ok, Err, ◌==◌, if◌then◌else◌, codes, bytes_eq, length}
+use Rattle.std.specs.Prelude.{◌≡◌, ℕ, ◌+◌, ◌-◌, ◌/◌, ◌%◌, Bool, true, false, not, ◌&&◌, ◌||◌, List, [], ◌∷◌, ◌++◌, take, drop, count_by, replicate, Option, Some, None, slice_get, Result, Ok, Err, ◌==◌, if◌then◌else◌, codes, bytes_eq, length}
 use Rattle.std.specs.List.{prefix_len, list_any}
 use Rattle.std.specs.Option.{ok_or}
 use Rattle.smil_model.specs.declared.order.Refusal.{Refusal}
@@ -89,6 +89,19 @@ without_tests spaces from (written ∷ others) line =
 abbrev pub kept_line : ℕ → Option Shape → List ℕ → List ℕ
 kept_line spaces None line = line
 kept_line spaces (Some shape) line = without_tests spaces 0 shape.attributes line
+
+-- ---- a line without tests
+
+-- `y`, which stands in the name of each test
+abbrev pub is_y : ℕ → Bool
+is_y b = b == 121
+
+-- a line that is no switch, and whose tests hold without a fault since it has none
+pub record IsPlain (shape : Option Shape) : Type 0 where
+  pub single : repeats_test shape ≡ false
+  pub holds : (wanted : Wanted) → line_holds wanted shape ≡ Ok true
+  pub other : is_switch shape ≡ false
+  pub kept : (spaces : ℕ) (line : List ℕ) → kept_line spaces shape line ≡ line
 
 -- ---- one more line
 

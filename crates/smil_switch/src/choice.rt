@@ -1,14 +1,14 @@
 //! The tests of a line, and the line that is kept.
 
-ghost use Rattle.std.specs.Prelude.{◌≡◌, ◌<◌, ◌≤◌, ◌-◌, ◌+◌, ◌^◌, ◌&&◌, ◌∷◌, ◌++◌, List, take, drop, replicate, bytes_eq, Some, IsSome, IfOk, OnOk};
+ghost use Rattle.std.specs.Prelude.{◌≡◌, ◌<◌, ◌≤◌, ◌-◌, ◌+◌, ◌^◌, ◌&&◌, ◌∷◌, ◌++◌, List, take, drop, replicate, not, bytes_eq, codes, Some, IsSome, IsTrue, IfOk, OnOk};
 ghost use Rattle.std.specs.List.{list_any};
 ghost use Rattle.smil_grammar.specs.Nodes.{WrittenAttr as WrittenText};
 ghost use Rattle.smil_attrs.specs.Remainder.{attributes_in, written_in};
 ghost use Rattle.smil_switch.specs.Preferences.{is_test as is_test_name};
 ghost use Rattle.smil_grammar.specs.Texts.{space};
-ghost use Rattle.smil_grammar.specs.Nodes.{at_column};
+ghost use Rattle.smil_grammar.specs.Nodes.{at_column, shape_of};
 ghost use Rattle.smil_grammar.specs.Outlines.{in_line};
-ghost use Rattle.smil_switch.specs.Choices.{attribute_holds, attributes_hold, is_switch as is_switch_shape, repeats_test as repeats_test_shape, without_tests as without_tests_of};
+ghost use Rattle.smil_switch.specs.Choices.{IsPlain, attribute_holds, attributes_hold, is_y, is_switch as is_switch_shape, repeats_test as repeats_test_shape, without_tests as without_tests_of};
 ghost use Rattle.smil_attrs.specs.Within.{StandsWithin, AllWithin};
 
 use super::preferences::Preferences;
@@ -40,7 +40,7 @@ pub fn repeats_test(shape: &Shape<'_>) -> bool
     ensures { result ≡ repeats_test_shape (Some shape.now) }
 {
     if is_switch(shape) {
-        return shape.attributes.repeats();
+        return shape.repeats();
     }
     let mut left = shape.attributes.again();
     while let Some(written) = left.next() {
@@ -87,6 +87,24 @@ fn attribute(
         return Err(Refusal::UnknownAttribute { column });
     }
     Ok(true)
+}
+
+// Whether a `y` stands in a text.
+fn has_y(text: &[u8]) -> bool
+    ensures { result ≡ list_any is_y text.now }
+{
+    text.iter().any(|byte| *byte == b'y')
+}
+
+/// Whether a line without leading spaces begins otherwise than with `switch` and has no `y`. It is
+/// no switch then and has no test, since a `y` stands in the name of each.
+#[tactic(auto, using(crate::proofs::Plain::line_plain))]
+pub fn is_plain(text: &[u8]) -> bool
+    ensures exact { result ≡ (not (bytes_eq (take 6 text.now) (codes "switch"))
+        && not (list_any is_y text.now)) }
+    ensures plain { IsTrue result → IsPlain (shape_of text.now) }
+{
+    !is(front(text, 6), b"switch") && !has_y(text)
 }
 
 // Whether both are so.

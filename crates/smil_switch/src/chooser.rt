@@ -1,16 +1,17 @@
 //! Lines of an outline, chosen one by one.
 
-ghost use Rattle.std.specs.Prelude.{◌≡◌, ◌<◌, ◌≤◌, ◌+◌, ◌∷◌, [], ◌++◌, take, length, slice_get, count_by, Some, IfSome, IfOk, IfErr, OnOk, OnErr, ◌^◌, ◌-◌};
+ghost use Rattle.std.specs.Prelude.{◌≡◌, ◌<◌, ◌≤◌, ◌+◌, ◌∷◌, [], ◌++◌, take, length, slice_get, count_by, Some, Ok, IfSome, IfOk, IfErr, OnOk, OnErr, ◌^◌, ◌-◌};
 ghost use Rattle.smil_model.specs.declared.order.Refusal.TheVariants.{Memory};
 ghost use Rattle.smil_switch.specs.declared.chosen.Chosen.TheVariants.{Kept};
-ghost use Rattle.smil_grammar.specs.Nodes.{shape_of};
+ghost use Rattle.std.specs.List.{prefix_len};
+ghost use Rattle.smil_grammar.specs.Nodes.{is_space, shape_of};
 ghost use Rattle.smil_attrs.specs.Within.{AllWithin};
 ghost use Rattle.smil_model.specs.shown.Answers.{IsText};
 ghost use Rattle.smil_switch.specs.declared.chosen.Below.TheVariants as BelowValue;
-ghost use Rattle.smil_switch.specs.Choices.{unchosen, pushed, tested, behind_kept as behind_kept_level, is_of_switch as is_of_switch_level, raised as raised_in, with_levels};
+ghost use Rattle.smil_switch.specs.Choices.{unchosen, pushed, seen, tested, behind_kept as behind_kept_level, is_of_switch as is_of_switch_level, raised as raised_in, with_levels};
 ghost use Rattle.smil_switch.specs.Gives.{GivesChosen};
 
-use super::choice::{holds, is_switch, repeats_test, without_tests};
+use super::choice::{holds, is_plain, is_switch, repeats_test, without_tests};
 use super::chosen::{Below, Chosen};
 use super::preferences::Preferences;
 use smil_attrs::Shape;
@@ -188,6 +189,20 @@ impl Chooser {
         Ok(Chosen::Kept { removed })
     }
 
+    // Keeps this line as it is, at this depth, below a level that is open to it.
+    fn keep_whole(&mut self, depth: usize, parent: Below, line: &[u8]) -> Result<Chosen, Refusal>
+        requires depth { depth < 2 ^ 31 }
+        requires level { slice_get self.old.levels depth ≡ Some parent }
+        ensures { GivesChosen self.old result self.new (Ok (
+          record (with_levels self.old depth
+              (behind_kept_level parent) BelowValue.Open) { line = line.now },
+          Kept (raised_in self.old depth),
+        )) }
+    {
+        let kept = Bytes::of(self.alloc, line)?;
+        self.keep(depth, parent, kept)
+    }
+
     // A line of this shape, below a level that is open to it.
     fn judge(
         &mut self,
@@ -219,6 +234,33 @@ impl Chooser {
         self.keep(depth, parent, kept)
     }
 
+    // A line behind so many spaces, below a level that is open to it.
+    #[tactic(auto, using(crate::proofs::Plain::plain_kept))]
+    fn choose(
+        &mut self,
+        depth: usize,
+        parent: Below,
+        line: &[u8],
+        spaces: usize,
+    ) -> Result<Chosen, Refusal>
+        requires depth { depth < 2 ^ 31 }
+        requires spaces { spaces ≡ prefix_len is_space line.now }
+        requires within { spaces ≤ length line.now }
+        requires text { length line.now < 2 ^ 31 }
+        requires level { slice_get self.old.levels depth ≡ Some parent }
+        ensures { GivesChosen self.old result self.new
+            (tested self.old depth parent (seen line.now)) }
+    {
+        let text = past(line, spaces);
+        if is_plain(text) {
+            return self.keep_whole(depth, parent, line);
+        }
+        match shape_in(text, spaces) {
+            Some(shape) => self.judge(depth, parent, line, spaces, &shape),
+            None => self.keep_whole(depth, parent, line),
+        }
+    }
+
     /// One more line, of fewer than 2,147,483,648 bytes without its line feed: whether it is kept,
     /// and how many levels higher.
     ///
@@ -240,20 +282,13 @@ impl Chooser {
             return Err(Refusal::BadOutline);
         }
         let depth = spaces / 2;
-        let shape = shape_in(past(line, spaces), spaces);
         match self.levels.at(depth) {
             Some(parent @ (Below::Aside | Below::Taken)) => {
                 self.levels.put(depth, parent, Below::Aside)?;
                 Ok(Chosen::Dropped)
             }
-            Some(parent) => match shape {
-                Some(shape) => self.judge(depth, parent, line, spaces, &shape),
-                None => {
-                    let kept = Bytes::of(self.alloc, line)?;
-                    self.keep(depth, parent, kept)
-                }
-            },
-            None => match shape {
+            Some(parent) => self.choose(depth, parent, line, spaces),
+            None => match shape_in(past(line, spaces), spaces) {
                 Some(shape) if repeats_test(&shape) => Err(Refusal::BadOutline),
                 _ => Err(Refusal::DepthJump),
             },

@@ -1,13 +1,14 @@
 -- The orders of a name alone.
-use Rattle.std.proofs.Common.{◌≡◌, ◌∷◌, inl, inr, Bool, true, false, List, [], refl, ap, sym, subst, ◌∙◌}
-use Rattle.std.specs.Prelude.{ℕ, map, filter, if◌then◌else◌}
+use Rattle.std.proofs.Common.{◌≡◌, ◌∷◌, inl, inr, Bool, true, false, List, [], Err, refl, ap, sym, subst, ◌∙◌}
+use Rattle.std.specs.Prelude.{ℕ, cond, map, filter, if◌then◌else◌}
 use Rattle.std.proofs.lemmas.Bool.{or_parts, or_cases}
+use Rattle.smil_model.specs.declared.order.Refusal.TheVariants.{Memory}
 use Rattle.smil_model.specs.document.Limits.{Limits}
 use Rattle.smil_grammar.specs.Scripts.{is_presentation_name}
-use Rattle.smil_top.specs.Cut.{OrderLines}
+use Rattle.smil_top.specs.Cut.{OrderLines, first_line}
 use Rattle.smil_top.specs.Session.{Session, empty_session}
-use Rattle.smil_top.specs.Answers.{Answer, answer_within}
-use Rattle.smil_top.specs.Transcript.{Answering, untold}
+use Rattle.smil_top.specs.Answers.{Answer, at_line, answer_within}
+use Rattle.smil_top.specs.Transcript.{Answering, takes_memory, untold}
 use Rattle.smil_top.specs.Laws.{OrderAttempt, AnsweredOrder, Heard, answer_to, heard, session_after, answered_from, answered_by, refuses_as, any_refused_as, is_of, is_preferring, concerns, own_answered, part_of, is_too_many, renumbered_try, AllSameBut, IsAlone}
 use Rattle.smil_top.proofs.Apart.{own_order, preferring_order, other_order}
 use Rattle.smil_top.proofs.Aside.{own_same}
@@ -25,20 +26,38 @@ module _ (allowed : Limits) (name : List ℕ) (is_name : is_presentation_name na
     answer : heard (answer_to answering (part_of name session) one) ≡ heard (answer_to answering session one)
     after : session_after (part_of name session) (answer_to answering (part_of name session) one) ≡ part_of name (session_after session (answer_to answering session one))
 
-  own_by : (session : Session) (order : OrderLines) (lacks : Bool) → concerns name order ≡ true
-      → refuses_as is_too_many (heard (answer_to answering session (record { order = order; lacks = lacks }))) ≡ false → Same session (record { order = order; lacks = lacks })
-  own_by session order true h few = record { answer = refl; after = refl }
-  own_by session order false h few = elim (or_cases (is_of name order) (is_preferring order) h) as (λ _. Same session (record { order = order; lacks = false })) [
+  -- memory ran out
+  abbrev lack : OrderLines → Answer
+  lack order = at_line (first_line order) (Err Memory)
+
+  own_plain : (session : Session) (order : OrderLines) → concerns name order ≡ true
+      → refuses_as is_too_many (heard (answering session order)) ≡ false → Same session (record { order = order; lacks = false })
+  own_plain session order h few = elim (or_cases (is_of name order) (is_preferring order) h) as (λ _. Same session (record { order = order; lacks = false })) [
     | inl d ↦ (let own = own_order allowed name session order is_name d few in record { answer = own.answer; after = own.after })
     | inr d ↦ (let own = preferring_order allowed name session order d in record { answer = own.answer; after = own.after })
   ]
+
+  own_by : (session : Session) (order : OrderLines) (lacks : Bool) → concerns name order ≡ true
+      → refuses_as is_too_many (heard (answer_to answering session (record { order = order; lacks = lacks }))) ≡ false → Same session (record { order = order; lacks = lacks })
+  own_by session order false h few = own_plain session order h few
+  own_by session order true h few = let both = by_need (takes_memory order) few in record { answer = both.0; after = both.1 }
+    where
+      by_need : (needs : Bool) → refuses_as is_too_many (heard (cond needs (lack order) (answering session order))) ≡ false
+          → (heard (cond needs (lack order) (answering (part_of name session) order)) ≡ heard (cond needs (lack order) (answering session order)))
+          × (session_after (part_of name session) (cond needs (lack order) (answering (part_of name session) order)) ≡ part_of name (session_after session (cond needs (lack order) (answering session order))))
+      by_need true k = (refl, refl)
+      by_need false k = let own = own_plain session order h k in (own.answer, own.after)
 
   own_one : (session : Session) (one : OrderAttempt) → concerns name one.order ≡ true → refuses_as is_too_many (heard (answer_to answering session one)) ≡ false → Same session one
   own_one session one h few = own_by session one.order one.lacks h few
 
   other_by : (session : Session) (order : OrderLines) (lacks : Bool) → concerns name order ≡ false
       → part_of name (session_after session (answer_to answering session (record { order = order; lacks = lacks }))) ≡ part_of name session
-  other_by session order true h = refl
+  other_by session order true h = by_need (takes_memory order)
+    where
+      by_need : (needs : Bool) → part_of name (session_after session (cond needs (lack order) (answering session order))) ≡ part_of name session
+      by_need true = refl
+      by_need false = other_order allowed name session order h
   other_by session order false h = other_order allowed name session order h
 
   other_one : (session : Session) (one : OrderAttempt) → concerns name one.order ≡ false → part_of name (session_after session (answer_to answering session one)) ≡ part_of name session

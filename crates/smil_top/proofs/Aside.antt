@@ -1,6 +1,6 @@
 -- Orders whose lines are given other numbers.
 use Rattle.std.proofs.Common.{◌≡◌, ◌∷◌, ◌++◌, Bool, true, false, List, [], Option, Some, None, Result, Ok, Err, refl, ap, sym, subst, ◌∙◌}
-use Rattle.std.specs.Prelude.{ℕ, ℤ, pos, codes, map, if◌then◌else◌}
+use Rattle.std.specs.Prelude.{ℕ, ℤ, cond, pos, codes, map, if◌then◌else◌}
 use Rattle.std.specs.List.{AllZip}
 use Rattle.std.specs.Fmt.{signed_decimal}
 use Rattle.smil_model.specs.declared.order.Order.{Order}
@@ -23,7 +23,7 @@ use Rattle.smil_top.specs.declared.fault.Fault.{Fault}
 use Rattle.smil_top.specs.Cut.{NumberedLine, OrderLines, single, load, first_line}
 use Rattle.smil_top.specs.Session.{Session, empty_session, presentation_of, with_state, without, may_load}
 use Rattle.smil_top.specs.Answers.{Answer, LoadedDocument, LoadHead, at_line, read_of, found_presentation, preferring, preferred_line, said_within, head_of, loading_from, given_within, loaded_within, answer_within}
-use Rattle.smil_top.specs.Transcript.{Answering, untold}
+use Rattle.smil_top.specs.Transcript.{Answering, takes_memory, untold}
 use Rattle.smil_top.specs.Laws.{OrderAttempt, AnsweredOrder, answer_to, heard, session_after, answered_from, numbered_by, renumbered, renumbered_try, is_of, own_answered, AreSameBut, without_text, with_text, refused_at, AreAside}
 use Rattle.smil_top.proofs.Transcripts.{sessions_from, sessions-told}
 
@@ -147,10 +147,23 @@ module _ (allowed : Limits) (given : ℕ → ℕ) where
     renumbered-first (single line) = refl
     renumbered-first (load lines ended) = refl
 
+    renumbered-takes : (order : OrderLines) → takes_memory (renumbered given order) ≡ takes_memory order
+    renumbered-takes (single line) = refl
+    renumbered-takes (load lines None) = refl
+    renumbered-takes (load lines (Some end_line)) = refl
+
+    -- memory ran out
+    abbrev lack : OrderLines → Answer
+    lack order = at_line (first_line order) (Err Memory)
+
     try_same : (order : OrderLines) (lacks : Bool) → Same (first_line order) (answer_to (answer_within allowed) session (record { order = order; lacks = lacks }))
         (answer_to (answer_within allowed) session (renumbered_try given (record { order = order; lacks = lacks })))
     try_same order true =
-        subst (λ (n : ℕ). Same (first_line order) (at_line (first_line order) (Err Memory)) (at_line n (Err Memory))) (sym (renumbered-first order)) (refused_at (first_line order) Memory, refl)
+        subst (λ (b : Bool). Same (first_line order) (cond (takes_memory order) (lack order) (answer_within allowed session order)) (cond b (lack (renumbered given order)) (answer_within allowed session (renumbered given order)))) (sym (renumbered-takes order)) (by_need (takes_memory order))
+      where
+        by_need : (needs : Bool) → Same (first_line order) (cond needs (lack order) (answer_within allowed session order)) (cond needs (lack (renumbered given order)) (answer_within allowed session (renumbered given order)))
+        by_need true = subst (λ (n : ℕ). Same (first_line order) (lack order) (at_line n (Err Memory))) (sym (renumbered-first order)) (refused_at (first_line order) Memory, refl)
+        by_need false = order_same order
     try_same order false = order_same order
 
     one_same : (one : OrderAttempt) → Same (first_line one.order) (answer_to (answer_within allowed) session one) (answer_to (answer_within allowed) session (renumbered_try given one))

@@ -35,6 +35,12 @@ module _ (cut : CutLines) (number : ℕ) (line : List ℕ) (n : number ≡ suc c
     pub cut-opens : length line ≤ LINE_BYTES → opens_load line ≡ true → with_line cut line ≡ record { count = number; whole = cut.whole; «open» = Some (record { head = numbered; nodes = [] }) }
     cut-opens h o = when true true (is_blank line) (is_short-true line h) o refl
 
+    pub cut-blank : length line ≤ LINE_BYTES → opens_load line ≡ false → is_blank line ≡ true → with_line cut line ≡ record { count = number; whole = cut.whole; «open» = None }
+    cut-blank h o b = when true false true (is_short-true line h) o b
+
+    pub cut-single : length line ≤ LINE_BYTES → opens_load line ≡ false → is_blank line ≡ false → with_line cut line ≡ record { count = number; whole = cut.whole ++ single numbered ∷ []; «open» = None }
+    cut-single h o b = when true false false (is_short-true line h) o b
+
   module _ (lines : LoadLines) (within : cut.«open» ≡ Some lines) where
     when_in : (short ended blank : Bool) → is_short line ≡ short → ends_load line ≡ ended → is_blank line ≡ blank →
         with_line cut line ≡ (if short && ended then record { count = number; whole = cut.whole ++ load lines (Some number) ∷ []; «open» = None }
@@ -47,6 +53,9 @@ module _ (cut : CutLines) (number : ℕ) (line : List ℕ) (n : number ≡ suc c
 
     pub cut-ends : length line ≤ LINE_BYTES → ends_load line ≡ true → with_line cut line ≡ record { count = number; whole = cut.whole ++ load lines (Some number) ∷ []; «open» = None }
     cut-ends h e = when_in true true (is_blank line) (is_short-true line h) e refl
+
+    pub cut-blank_node : length line ≤ LINE_BYTES → ends_load line ≡ false → is_blank line ≡ true → with_line cut line ≡ record { count = number; whole = cut.whole; «open» = Some lines }
+    cut-blank_node h e b = when_in true false true (is_short-true line h) e b
 
     pub cut-node : length line ≤ LINE_BYTES → ends_load line ≡ false → is_blank line ≡ false → with_line cut line ≡ record { count = number; whole = cut.whole; «open» = Some (record lines { nodes = lines.nodes ++ numbered ∷ [] }) }
     cut-node h e b = when_in true false false (is_short-true line h) e b

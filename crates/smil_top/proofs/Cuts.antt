@@ -24,10 +24,13 @@ count_by None whole line =
 count_by (Some lines) whole line =
     if_either (ends line.text) _ _ (λ (cut : CutLines). cut.count ≡ line.number) refl (if_either (is_silent line.text) _ _ (λ (cut : CutLines). cut.count ≡ line.number) refl refl)
 
+pub count-with_line : (cut : CutLines) (line : List ℕ) → (with_line cut line).count ≡ suc cut.count
+count-with_line cut line = count_by cut.«open» cut.whole (record { number = suc cut.count; text = line })
+
 count_further : (cut : CutLines) (lines : List (List ℕ)) → (cut_further cut lines).count ≡ cut.count + length lines
 count_further cut [] = omega arith
 count_further cut (line ∷ lines) =
-    let first : (with_line cut line).count ≡ suc cut.count = count_by cut.«open» cut.whole (record { number = suc cut.count; text = line }) in
+    let first : (with_line cut line).count ≡ suc cut.count = count-with_line cut line in
     let rest : (cut_further (with_line cut line) lines).count ≡ (with_line cut line).count + length lines = count_further (with_line cut line) lines in
     omega arith
 

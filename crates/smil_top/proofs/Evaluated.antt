@@ -171,7 +171,7 @@ within-bounds (Err fault) text counts so_far session order rise made counted eno
 
     go : MayAnswer answer_of session order (Err fault) → (fault.refusal ≡ DiaryFull) ⊎ ((fault.refusal ≡ Memory) ⊎ (rise ≡ 0)) →
         (number_of least session order ≤ rise) × (rise ≤ number_of most session order)
-    go (inr memory) c = clash (is_memory fault.refusal) (ap (λ (a : Answer). refuses_as is_memory (heard a)) memory) sufficed
+    go (inr memory) c = clash (is_memory fault.refusal) (ap (λ (a : Answer). refuses_as is_memory (heard a)) memory.1) sufficed
     go (inl is) (inl full) =
         clash (is_diary_full fault.refusal) (ap is_diary_full full) (ap (λ (a : Answer). refuses_as is_diary_full (heard a)) is ∙ not_full)
     go (inl is) (inr (inl memory)) = clash (is_memory fault.refusal) (ap is_memory memory) sufficed

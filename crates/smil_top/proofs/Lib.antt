@@ -7,6 +7,7 @@ pub mod CutLines
 pub mod Cuts
 pub mod Enough
 pub mod Evaluated
+pub mod HeldSessions
 pub mod HouseLemmas
 pub mod InputParts
 pub mod Inputs

@@ -1,6 +1,6 @@
 -- An order that meets no limit is answered the same within larger limits.
 use Rattle.std.proofs.Common.{◌≡◌, Bool, true, false, List, [], ◌∷◌, Some, None, Result, Ok, Err, refl, ap, ◌∙◌}
-use Rattle.std.specs.Prelude.{ℕ, ℤ, Option, pos, not, ◌++◌, ◌*◌, drop, length, nat_lt, unwrap_or, if◌then◌else◌}
+use Rattle.std.specs.Prelude.{ℕ, ℤ, cond, Option, pos, not, ◌++◌, ◌*◌, drop, length, nat_lt, unwrap_or, if◌then◌else◌}
 use Rattle.std.proofs.lemmas.Bool.{or_parts}
 use Rattle.smil_model.specs.declared.order.Order.{Order}
 use Rattle.smil_model.specs.declared.order.Refusal.{Refusal}
@@ -25,10 +25,10 @@ use Rattle.smil_laws.specs.Migration.{AreBelow, is_for_limit, meets_no_limit}
 use Rattle.smil_laws.proofs.Migrating.{outcome_same, opening_same}
 use Rattle.smil_outline.proofs.Migrating.{line_same, then_same as plain_same}
 use Rattle.smil_top.specs.declared.fault.Fault.{Fault}
-use Rattle.smil_top.specs.Cut.{NumberedLine, LoadLines, OrderLines, single, load}
+use Rattle.smil_top.specs.Cut.{NumberedLine, LoadLines, OrderLines, single, load, first_line}
 use Rattle.smil_top.specs.Session.{Session, presentation_of, with_state, may_load}
 use Rattle.smil_top.specs.Answers.{AcceptedOrder, Answer, LoadedDocument, at_line, read_of, found_presentation, ordered_within, said_within, LoadHead, head_of, loading_from, given_within, loaded_within, checked, answer_within, check_within}
-use Rattle.smil_top.specs.Transcript.{Answering, TranscriptState, with_answer, untold}
+use Rattle.smil_top.specs.Transcript.{Answering, TranscriptState, takes_memory, with_answer, untold}
 use Rattle.smil_top.specs.Laws.{OrderAttempt, answer_to, told_by, heard, session_after, answered_from, answered_by, refuses_as, any_refused_as}
 use Rattle.smil_top.proofs.Transcripts.{told_further, session_with}
 
@@ -174,7 +174,12 @@ module _ (small large : Limits) (below : AreBelow small large) where
   module _ (within : Limits → Answering) (each : (session : Session) (order : OrderLines) → spares (within small session order) ≡ true → within large session order ≡ within small session order) where
     tried_same : (session : Session) (order : OrderLines) (lacks : Bool) → refuses_as is_for_limit (heard (answer_to (within small) session (record { order = order; lacks = lacks }))) ≡ false
         → answer_to (within large) session (record { order = order; lacks = lacks }) ≡ answer_to (within small) session (record { order = order; lacks = lacks })
-    tried_same session order true m = refl
+    tried_same session order true m = by_need (takes_memory order) m
+      where
+        by_need : (needs : Bool) → refuses_as is_for_limit (heard (cond needs (at_line (first_line order) (Err refusal.Memory)) (within small session order))) ≡ false
+            → cond needs (at_line (first_line order) (Err refusal.Memory)) (within large session order) ≡ cond needs (at_line (first_line order) (Err refusal.Memory)) (within small session order)
+        by_need true k = refl
+        by_need false k = each session order (unlimited (within small session order) k)
     tried_same session order false m = each session order (unlimited (within small session order) m)
 
     further_same : (told : TranscriptState) (tried : List OrderAttempt) → any_refused_as is_for_limit (answered_from (within small) told.session tried) ≡ false

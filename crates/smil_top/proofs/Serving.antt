@@ -1,5 +1,5 @@
 -- What stands between two lines of an input, and what follows from it where the call ends.
-use Rattle.std.proofs.Common.{◌≡◌, ◌⊎◌, ℕ, ◌<◌, ◌≤◌, suc, Bool, true, false, List, [], ◌∷◌, ◌++◌, length, take, drop, Option, Some, None, refl, ap, sym, subst, ◌∙◌, arith, append_assoc, inl, inr}
+use Rattle.std.proofs.Common.{◌≡◌, ◌≢◌, ◌⊎◌, ℕ, ◌<◌, ◌≤◌, suc, Bool, true, false, List, [], ◌∷◌, ◌++◌, length, take, drop, Option, Some, None, refl, ap, sym, subst, ◌∙◌, arith, append_assoc, inl, inr}
 use Rattle.std.specs.Prelude.{nat_lt, IfSome, IsNone, Result, Ok, Err, is_err}
 use Rattle.std.proofs.lemmas.List.{append-nil, length-append, take-append-drop, length-drop}
 use Rattle.std.specs.Io.KnownBytes.{Appends, Consumes, IsAtEnd}
@@ -103,6 +103,11 @@ unbroken_by text line new after (inr last) = inr (last.3, last.1.0)
 -- a line that the reader shows, or one that is too long
 abbrev pub Hands : ReaderState → Line → Option (List ℕ) → Type 0
 Hands new answer text = ((answer ≡ Bytes) × (text ≡ Some new.line)) ⊎ ((answer ≡ LongLine) × (text ≡ None))
+
+-- then no read failed
+pub hands-no_fault : (new : ReaderState) (answer : Line) (text : Option (List ℕ)) → Hands new answer text → answer ≢ ReadFault
+hands-no_fault new answer text (inl (shown, is)) = λ fault. cc
+hands-no_fault new answer text (inr (long, is)) = λ fault. cc
 
 module _ {old new : ReaderState} {before rest after : Option (List ℕ)} {came : List ℕ} {answered : List (List ℕ)} (has : HasRead old before rest came answered) where
   -- a line that the reader shows

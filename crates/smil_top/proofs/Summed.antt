@@ -38,7 +38,7 @@ one-transcript answering _ _ (and_then {orders = orders} {told = told} so_far or
     let was : told ≡ transcript_by answering orders = one-transcript answering orders told so_far (before-memory told answer h) in
     let last : with_answer told answer ≡ with_answer told (answering told.session order) = elim may [
       | inl is ↦ ap (with_answer told) is
-      | inr memory ↦ absurd (memory-told told (first_line order) (ap (λ a. (with_answer told a).memory) (sym memory) ∙ h))
+      | inr memory ↦ absurd (memory-told told (first_line order) (ap (λ a. (with_answer told a).memory) (sym memory.1) ∙ h))
     ] in
     last
     ∙ ap (λ (t : TranscriptState). with_answer t (answering t.session order)) was

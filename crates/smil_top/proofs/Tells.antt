@@ -20,14 +20,14 @@ use Rattle.smil_top.specs.declared.loaded.LoadedDoc.{LoadedDoc as GivenDoc}
 use Rattle.smil_top.specs.declared.load.Load.{Load}
 use Rattle.smil_top.specs.declared.run.Run.{Run}
 use Rattle.smil_top.specs.declared.session.Session.{Session as KeptSession}
-use Rattle.smil_top.specs.Cut.{OrderLines, single, load as load_order, LoadLines, CutLines}
+use Rattle.smil_top.specs.Cut.{OrderLines, single, load as load_order, LoadLines, CutLines, unended}
 use Rattle.smil_top.specs.Session.{Session}
 use Rattle.smil_top.specs.Answers.{Answer, LoadedDocument, at_line, said_within, check_said, given_within, loaded_within, checked}
 use Rattle.smil_top.specs.Transcript.{TranscriptState, and_then, is_memory, with_answer}
 use Rattle.smil_top.specs.Summary.{line_count}
 use Rattle.smil_switch.specs.Preferences.{Wanted}
 use Rattle.smil_top.specs.Houses.{Keeps}
-use Rattle.smil_top.specs.Running.{answering, with_order, counted_on, given_of, line_by, load_by, said, text_of, AreCounted, Answers, AnswersOrders, Gives, Goes, IsOpen, IsRead, IsRunning, IsLine, Makes, MakesAnswer, Tells, Writes, WritesAll}
+use Rattle.smil_top.specs.Running.{answering, with_order, counted_on, finished, given_of, line_by, load_by, no_text, said, text_of, AreCounted, Answers, AnswersOrders, Gives, Goes, IsOpen, IsRead, IsRunning, IsLine, Makes, MakesAnswer, Tells, Writes, WritesAll}
 use Rattle.smil_top.proofs.CutLines.{is_short-true, is_short-false}
 
 -- the answer that was made
@@ -113,14 +113,14 @@ pub told-order : {checks : Bool} {run new : Run} {whole : List OrderLines} {told
     (kept : KeptSession) (order : OrderLines) (answered : Result (Unit {0}) Fault) (text : AnswerText) →
     Tells checks run whole told → MakesAnswer answered text kept told.session (answering checks) order →
     new.session ≡ kept → kept.checks ≡ run.session.checks → new.counts ≡ with_order answered (min (line_count (said answered text)) last_count) run.counts →
-    Writes result before after room left (said answered text) →
+    Writes result before after room left (said answered text) → new.answer ≡ finished answered text →
     AnswersOrders checks result new (whole ++ order ∷ []) told before after room left
-told-order {checks} {run} {new} {whole} {told} kept order answered text tells made is same counts writes =
+told-order {checks} {run} {new} {whole} {told} kept order answered text tells made is same counts writes stands =
     let at_end : MakesAnswer answered text new.session told.session (answering checks) order =
     subst (λ (s : KeptSession). MakesAnswer answered text s told.session (answering checks) order) (sym is) made
     in
     let more = told-more checks run new whole told order answered text tells at_end (ap (λ (s : KeptSession). s.checks) is ∙ same) counts in
-    record { more = more.0; goes = record { text = said answered text; text_is = more.2; writes = writes }; tells = more.1 }
+    record { more = more.0; goes = record { text = said answered text; text_is = more.2; writes = writes }; stands = ap text_of stands; tells = more.1 }
 
 -- ---- single lines
 
@@ -139,7 +139,7 @@ single-made checks (Ok done) text so_far session number line short made =
 single-made checks (Err refusal) text so_far session number line short made = (
   made.0,
   elim made.1 [
-    | inl memory ↦ inr (ap (λ r. at_line number (Err r)) memory)
+    | inl memory ↦ inr (is_short-true line short, ap (λ r. at_line number (Err r)) memory)
     | inr is ↦ inl (sym (answer-single checks session number line short ∙ ap (at_line number) is))
   ],
 )
@@ -189,7 +189,7 @@ load-made checks (Ok done) text so_far session lines line end_line given same (i
 load-made checks (Err refusal) text so_far session lines line end_line given same (inl gives) made = (
   made.0,
   elim made.1 [
-    | inl memory ↦ inr (ap (λ r. at_line line (Err r)) memory ∙ ap (λ n. at_line n (Err Memory)) same)
+    | inl memory ↦ inr (refl, ap (λ r. at_line line (Err r)) memory ∙ ap (λ n. at_line n (Err Memory)) same)
     | inr is ↦ inl (sym (answer-load checks session lines end_line (Ok (given_of given)) gives ∙ ap (λ n. at_line n (load_by checks session n (given_of given))) (sym same) ∙ ap (at_line line) is))
   ],
 )
@@ -198,7 +198,7 @@ pub unread-made : (checks : Bool) (text : AnswerText) (so_far : KeptSession) (se
     Gives (Err fault) (given_within limits session.wanted lines end_line) ⊎ (faulty fault ≡ Err (record { line = lines.head.number; refusal = Memory })) →
     MakesAnswer (Err fault) text so_far session (answering checks) (load_order lines (Some end_line))
 unread-made checks text so_far session lines end_line fault keeps (inl gives) = (keeps, inl (sym (answer-load checks session lines end_line (Err fault) gives)))
-unread-made checks text so_far session lines end_line fault keeps (inr memory) = (keeps, inr (ap as_answer memory))
+unread-made checks text so_far session lines end_line fault keeps (inr memory) = (keeps, inr (refl, ap as_answer memory))
 
 -- the input ends within a load
 pub unfinished-made : (checks : Bool) (text : AnswerText) (so_far : KeptSession) (session : Session) (lines : LoadLines) (line : ℕ) → line ≡ lines.head.number → Keeps so_far session →
@@ -242,24 +242,32 @@ pub running-order : {checks : Bool} {result : Result (Unit {0}) Failed} {run : R
 running-order {checks} {run = run} is no_load answers = record {
   more = answers.more;
   goes = answers.goes;
+  stands = answers.stands;
   running = subst (λ (c : CutLines). IsRunning checks run c answers.more) (sym is) (record { tells = answers.tells; load = subst (λ o. IsOpen o answers.more.session.wanted None) (sym no_load) tt });
 }
 
--- nothing is told
-pub Goes-nothing : (told : TranscriptState) (before : Option (List ℕ)) (room : ℕ) → WritesAll before before room room [] → Goes (Ok tt) told told before before room room
-Goes-nothing told before room nothing = record { text = []; text_is = sym (append-nil told.text); writes = nothing }
+-- no order more is answered, and nothing is told
+pub nothing-told : {checks : Bool} {run : Run} {whole : List OrderLines} {told : TranscriptState} {before : Option (List ℕ)} {room : ℕ} →
+    Tells checks run whole told → run.answer ≡ no_text → WritesAll before before room room [] → AnswersOrders checks (Ok tt) run whole told before before room room
+nothing-told {told = told} tells empty nothing = record {
+  more = told;
+  goes = record { text = []; text_is = sym (append-nil told.text); writes = nothing };
+  stands = ap text_of empty;
+  tells = tells;
+}
 
 -- nothing is told, and a load hasn't ended
 pub running-load : {checks : Bool} {run : Run} {load : Load} {cut : CutLines} {count : ℕ} {whole : List OrderLines} {lines : LoadLines} {told : TranscriptState} {before : Option (List ℕ)} {room : ℕ} →
-    cut ≡ record { count = count; whole = whole; «open» = Some lines } → run.load ≡ Some load → IsRead load told.session.wanted lines → Tells checks run whole told →
+    cut ≡ record { count = count; whole = whole; «open» = Some lines } → run.load ≡ Some load → IsRead load told.session.wanted lines → Tells checks run whole told → run.answer ≡ no_text →
     WritesAll before before room room [] → Answers checks (Ok tt) run cut told before before room room
-running-load {checks} {run} {lines = lines} {told = told} {before = before} {room = room} is loaded read tells nothing = record {
+running-load {checks} {run} {lines = lines} {told = told} is loaded read tells empty nothing = record {
   more = told;
-  goes = Goes-nothing told before room nothing;
+  goes = record { text = []; text_is = sym (append-nil told.text); writes = nothing };
+  stands = ap text_of empty;
   running = subst (λ (c : CutLines). IsRunning checks run c told) (sym is) (record { tells = tells; load = subst (λ o. IsOpen o told.session.wanted (Some lines)) (sym loaded) read });
 }
 
--- what is told stays where the run differs in its load alone
+-- what is told stays where the run differs in its load and its answer alone
 pub tells-on : (checks : Bool) (run new : Run) (whole : List OrderLines) (told : TranscriptState) → new.session ≡ run.session → new.counts ≡ run.counts →
     Tells checks run whole told → Tells checks new whole told
 tells-on checks run new whole told session counts tells = record {
@@ -268,3 +276,9 @@ tells-on checks run new whole told session counts tells = record {
   keeps = subst (λ s. Keeps s told.session) (sym session) tells.keeps;
   counted = subst (λ k. AreCounted k whole told) (sym counts) tells.counted;
 }
+
+-- no load was open at the end of the input
+pub ended-nothing : {checks : Bool} {run : Run} {told : TranscriptState} {before : Option (List ℕ)} {room : ℕ} (cut : CutLines) →
+    cut.«open» ≡ None → AnswersOrders checks (Ok tt) run cut.whole told before before room room → AnswersOrders checks (Ok tt) run (cut.whole ++ unended cut.«open») told before before room room
+ended-nothing {checks} {run} {told} {before} {room} cut out answers =
+    subst (λ orders. AnswersOrders checks (Ok tt) run orders told before before room room) (sym (ap (λ o. cut.whole ++ unended o) out ∙ append-nil cut.whole)) answers

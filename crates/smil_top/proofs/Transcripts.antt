@@ -1,6 +1,6 @@
 -- Transcripts, answer by answer.
 use Rattle.std.proofs.Common.{◌≡◌, Bool, true, false, List, [], ◌∷◌, ◌++◌, Ok, Err, inl, inr, refl, ap, sym, subst, ◌∙◌, append_assoc}
-use Rattle.std.specs.Prelude.{ℕ, map, fold, flat_map}
+use Rattle.std.specs.Prelude.{ℕ, cond, map, fold, flat_map}
 use Rattle.std.proofs.lemmas.Bool.{or_parts, or_from}
 use Rattle.std.proofs.lemmas.List.{append-nil, map-append}
 use Rattle.std.proofs.lemmas.List.Sums.{fold-append}
@@ -9,7 +9,7 @@ use Rattle.smil_model.specs.declared.order.Refusal.TheVariants.{Memory}
 use Rattle.smil_top.specs.Cut.{OrderLines, first_line}
 use Rattle.smil_top.specs.Session.{Session}
 use Rattle.smil_top.specs.Answers.{Answer, at_line}
-use Rattle.smil_top.specs.Transcript.{Answering, MayAnswer, TranscriptState, untold, with_answer, is_memory, IsTranscriptBy, of_nothing, and_then, transcript_by}
+use Rattle.smil_top.specs.Transcript.{Answering, MayAnswer, TranscriptState, untold, takes_memory, with_answer, is_memory, IsTranscriptBy, of_nothing, and_then, transcript_by}
 use Rattle.smil_top.specs.Laws.{OrderAttempt, with_ease, answer_to, told_by, AnsweredOrder, heard, session_after, answered_from, answered_by, answer_lines, refuses_as}
 
 -- ---- one answer more
@@ -57,7 +57,7 @@ module _ (answering : Answering) where
   answered : (orders : List OrderLines) (told : TranscriptState) → Is answering orders told → (order : OrderLines) (answer : Answer) → MayAnswer answering told.session order answer
       → Is answering (orders ++ order ∷ []) (with_answer told answer)
   answered orders told before order answer (inl e) = more orders told before (record { order = order; lacks = false }) answer e
-  answered orders told before order answer (inr e) = more orders told before (record { order = order; lacks = true }) answer e
+  answered orders told before order answer (inr e) = more orders told before (record { order = order; lacks = true }) answer (e.1 ∙ sym (rw e.0 refl))
 
   pub is_told : {orders : List OrderLines} {told : TranscriptState} → IsTranscriptBy answering orders told → Is answering orders told
   is_told of_nothing = ([], refl, refl)
@@ -66,7 +66,11 @@ module _ (answering : Answering) where
   -- ---- what is told is a transcript
 
   lacking : (session : Session) (order : OrderLines) (lacks : Bool) → MayAnswer answering session order (answer_to answering session (record { order = order; lacks = lacks }))
-  lacking session order true = inr refl
+  lacking session order true = by_need (takes_memory order) refl
+    where
+      by_need : (needs : Bool) → takes_memory order ≡ needs → MayAnswer answering session order (cond needs (at_line (first_line order) (Err Memory)) (answering session order))
+      by_need true e = inr (e, refl)
+      by_need false e = inl refl
   lacking session order false = inl refl
 
   may : (session : Session) (one : OrderAttempt) → MayAnswer answering session one.order (answer_to answering session one)
@@ -116,7 +120,7 @@ module _ (answering : Answering) where
       ap (with_answer told) e ∙ ap (λ (t : TranscriptState). with_answer t (answering t.session order)) before
       ∙ sym (fold-append (λ (told : TranscriptState) (order : OrderLines). with_answer told (answering told.session order)) untold orders (order ∷ []))
   one_more orders told order answer before m (inr e) =
-      let lacks : (with_answer told (at_line (first_line order) (Err Memory))).memory ≡ false = ap (λ (a : Answer). (with_answer told a).memory) (sym e) ∙ m in
+      let lacks : (with_answer told (at_line (first_line order) (Err Memory))).memory ≡ false = ap (λ (a : Answer). (with_answer told a).memory) (sym e.1) ∙ m in
       let never : true ≡ false = (or_parts told.memory true lacks).1 in absurd cc
 
   pub is_one : {orders : List OrderLines} {told : TranscriptState} → IsTranscriptBy answering orders told → told.memory ≡ false → told ≡ transcript_by answering orders

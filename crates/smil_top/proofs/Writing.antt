@@ -1,12 +1,11 @@
 -- What was written, of one text and of two.
-use Rattle.std.proofs.Common.{ℕ, ◌+◌, ◌<◌, ◌≤◌, List, ◌++◌, length, take, Option, Result, Ok, Err, sym, subst, arith, inl, inr}
-use Rattle.std.specs.Prelude.{IsOk, OnOk, OnErr, ◌⊎◌}
+use Rattle.std.proofs.Common.{◌≡◌, ℕ, ◌+◌, ◌<◌, ◌≤◌, false, List, ◌++◌, length, take, Option, Result, Ok, Err, sym, subst, arith, inl, inr}
+use Rattle.std.specs.Prelude.{is_err, IsOk, OnOk, OnErr}
 use Rattle.std.proofs.Math.Seq.{take-append-add}
 use Rattle.std.proofs.lemmas.Bool.{cases_lt}
 use Rattle.std.proofs.lemmas.List.{length-append}
 use Rattle.std.specs.Io.KnownBytes.{Appends}
 use Rattle.smil_outside.specs.declared.failed.Failed.{Failed}
-use Rattle.smil_outside.specs.Faults.{HasRisen}
 use Rattle.std.proofs.KnownBytes.{Appends-trans}
 use Rattle.smil_top.specs.Running.{WritesAll, Writes}
 
@@ -30,11 +29,7 @@ Writes-two (Err e) before middle after room between left first second one two = 
   omega (arith, one.1, two.3, length-append first second),
 )
 
--- a count that has risen has risen from what it was before too
-pub risen-from : (before between after : ℕ) → before ≤ between → HasRisen between after → HasRisen before after
-risen-from before between after le (inl lt) = inl (omega arith)
-risen-from before between after le (inr last) = by_order (cases_lt before after)
-  where
-    by_order : (before < after) ⊎ (after ≤ before) → HasRisen before after
-    by_order (inl lt) = inl lt
-    by_order (inr ge) = inr (omega (arith, last.0, last.1), last.1)
+-- what is said of a value, where there is one
+pub where_ok : {A E : Type 0} (r : Result A E) (P : Type 0) → is_err r ≡ false → OnOk r P → P
+where_ok (Ok x) P q h = h
+where_ok (Err e) P q h = cc

@@ -16,11 +16,11 @@ use Rattle.smil_top.specs.declared.fault.Fault.{Fault}
 use Rattle.smil_top.specs.Cut.{NumberedLine, OrderLines, single, load, first_line, whole_orders, orders}
 use Rattle.smil_top.specs.Session.{Session, empty_session, is_named, presentation_of}
 use Rattle.smil_top.specs.Answers.{Answer, at_line, answer_within, check_within}
-use Rattle.smil_top.specs.Transcript.{Answering, TranscriptState, untold, with_answer, is_memory, IsTranscriptBy, transcript_by}
+use Rattle.smil_top.specs.Transcript.{Answering, TranscriptState, untold, takes_memory, with_answer, is_memory, IsTranscriptBy, transcript_by}
 
 -- ---- transcripts, answer by answer
 
--- an order, and whether memory runs out at it
+-- an order, and whether memory runs out at it, where any is taken for it
 pub record OrderAttempt : Type 0 where
   pub order : OrderLines
   pub lacks : Bool
@@ -36,7 +36,8 @@ with_ease order = record { order = order; lacks = false }
 -- what it is answered in a session
 abbrev pub answer_to : Answering → Session → OrderAttempt → Answer
 answer_to answering session tried =
-    if tried.lacks then at_line (first_line tried.order) (Err Memory)
+    if tried.lacks && takes_memory tried.order
+    then at_line (first_line tried.order) (Err Memory)
     else answering session tried.order
 
 -- what orders are told in turn

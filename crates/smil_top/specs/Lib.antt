@@ -12,3 +12,4 @@ pub mod Running
 pub mod Laws
 pub mod Evaluations
 pub mod AuditInputs
+pub mod Held

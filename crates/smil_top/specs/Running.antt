@@ -262,11 +262,12 @@ pub record Goes (result : Result (Unit {0}) Failed) (told more : TranscriptState
   pub text_is : more.text ≡ told.text ++ text
   pub writes : Writes result before after room left text
 
--- more was told, and with it the orders are answered that are whole now
+-- more was told, and with it the orders are answered that are whole now; it stands in the run
 pub record Answers (checks : Bool) (result : Result (Unit {0}) Failed) (run : Run) (cut : CutLines)
     (told : TranscriptState) (before after : Option (List ℕ)) (room left : ℕ) : Type 0 where
   pub more : TranscriptState
   pub goes : Goes result told more before after room left
+  pub stands : text_of run.answer ≡ goes.text
   pub running : IsRunning checks run cut more
 
 -- the same for one order more, or for the end of the input
@@ -275,6 +276,7 @@ pub record AnswersOrders (checks : Bool) (result : Result (Unit {0}) Failed) (ru
     (before after : Option (List ℕ)) (room left : ℕ) : Type 0 where
   pub more : TranscriptState
   pub goes : Goes result told more before after room left
+  pub stands : text_of run.answer ≡ goes.text
   pub tells : Tells checks run orders more
 
 -- how the call ends

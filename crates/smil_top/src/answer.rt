@@ -1,6 +1,6 @@
 //! The text of an answer, made whole before it is written.
 
-ghost use Rattle.std.specs.Prelude.{◌≡◌, ◌≤◌, min, OnErr};
+ghost use Rattle.std.specs.Prelude.{◌≡◌, min, OnOk, OnErr};
 ghost use Rattle.smil_outside.specs.Faults.{HasRisen, last_count};
 ghost use Rattle.smil_top.specs.Running.{Writes, finished, no_text, text_of};
 ghost use Rattle.smil_top.specs.Summary.{line_count};
@@ -59,8 +59,8 @@ impl Answer {
     pub fn write<K: Sink>(&self, sink: &mut K) -> Result<(), Failed>
         ensures writes { Writes result (K.taken sink.old) (K.taken sink.new) (K.sure_room sink.old)
             (K.sure_room sink.new) (text_of self.now) }
+        ensures kept { OnOk result (K.faults sink.new ≡ K.faults sink.old) }
         ensures cause { OnErr result (HasRisen (K.faults sink.old) (K.faults sink.new)) }
-        ensures count { K.faults sink.old ≤ K.faults sink.new }
     {
         write_all(sink, self.told.slice())?;
         write_all(sink, self.last.slice())

@@ -16,7 +16,8 @@ use super::last_line::LastLine;
 use super::status::Status;
 use smil_attrs::read_header;
 use smil_audit::check;
-use smil_model::{DIARY_ENTRIES, Diary, Doc, Entry, Log, LogEntry, Refusal, Step, Steps};
+use smil_interval::Steps;
+use smil_model::{DIARY_ENTRIES, Diary, Doc, Entry, Log, LogEntry, Refusal, Step};
 use smil_outline::Builder;
 use smil_outside::{Line, LineReader, Source};
 use smil_script::{DiaryLine, ends_load, is_blank, read_diary_line};
@@ -89,9 +90,9 @@ pub(crate) fn told_of<S: Source, L: Ledger>(
     ensures told { IfOk result (λ told. Audited told (S.rest source.old) (S.rest source.new)) }
     ensures stopped { IfErr result (λ status. StopsAudit status (S.rest source.old)
         (S.rest source.new)) }
+    ensures read_kept { result ≢ Err Status.ReadFault → S.faults source.new ≡ S.faults source.old }
     ensures read_cause { result ≡ Err Status.ReadFault
         → HasRisen (S.faults source.old) (S.faults source.new) }
-    ensures read_count { S.faults source.old ≤ S.faults source.new }
     ensures sure { S.never_fails source.old → result ≢ Err Status.ReadFault }
     ensures counted { steps.old ≤ steps.new }
 {
@@ -123,9 +124,10 @@ impl AuditOpening {
         ensures stopped { IfErr result (λ status. StopsAudit status (S.rest source.old)
             (S.rest source.new)) }
         ensures sound { IfOk result (λ whole. IfOk whole.said IsSound) }
+        ensures read_kept { result ≢ Err Status.ReadFault
+            → S.faults source.new ≡ S.faults source.old }
         ensures read_cause { result ≡ Err Status.ReadFault
             → HasRisen (S.faults source.old) (S.faults source.new) }
-        ensures read_count { S.faults source.old ≤ S.faults source.new }
         ensures sure { S.never_fails source.old → result ≢ Err Status.ReadFault }
     {
         let AuditOpening { mut reader, input } = self;

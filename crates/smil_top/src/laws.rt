@@ -7,6 +7,7 @@ ghost use Rattle.smil_top.specs.Laws.{IsOfOneName, OthersStay, PresentationsStay
 ghost use Rattle.smil_top.specs.Laws.{PreferringIsOfNone, HeldStay, PreferencesStay};
 ghost use Rattle.smil_top.specs.Laws.{NamesAreIsolated, NumbersAreAside, OrdersAreCutAgain};
 ghost use Rattle.smil_top.specs.Laws.{InputsAreIsolated, InputsAreCut, TranscriptsHaveFronts};
+ghost use Rattle.smil_top.specs.Held.{HeldIsServed, ServedIsHeld};
 ghost use Rattle.smil_top.specs.Laws.{TranscriptsAreCut, AllTranscriptsAreCut, TranscriptsMigrate};
 
 /// A transcript of orders is what they are told where memory runs out at some of them, at none or
@@ -87,4 +88,11 @@ pub fn transcripts_are_cut()
 /// A transcript in which nothing is refused for a limit is one within larger limits.
 pub fn transcripts_migrate()
     ensures { TranscriptsMigrate }
+{}
+
+/// What a session that a host holds is told of its lines is what `serve` writes of an input of
+/// these lines, where memory suffices.
+pub fn held_sessions_are_served()
+    ensures whole { HeldIsServed }
+    ensures same { ServedIsHeld }
 {}

@@ -7,6 +7,7 @@ mod call;
 mod counts;
 mod fault;
 mod generated;
+mod held;
 mod last_line;
 pub mod laws;
 mod load;
@@ -20,5 +21,6 @@ mod status;
 mod top;
 
 pub use call::Call;
+pub use held::{Held, TooManyLines};
 pub use status::Status;
 pub use top::serve;

@@ -28,7 +28,7 @@ pub(crate) struct Loading {
     first: bool,
     chooser: Chooser,
     root: Option<Option<Bytes>>,
-    outline: Builder,
+    outline: Box<Builder>,
 }
 
 impl Model for Loading {
@@ -37,7 +37,7 @@ impl Model for Loading {
     ghost Value = { LoadingSoFar };
 
     ghost view = { λ a.
-        record { first = a.first; choice = a.chooser; root = a.root; outline = a.outline } };
+        record { first = a.first; choice = a.chooser; root = a.root; outline = a.outline.value } };
 }
 
 // The id of a root by which items are rewritten: none where its line has no id, or has a begin.
@@ -137,7 +137,7 @@ impl Loading {
             first: true,
             chooser: Chooser::new(alloc, preferences)?,
             root: None,
-            outline: Builder::new(alloc)?,
+            outline: Box::new(alloc, Builder::new(alloc)?)?,
         })
     }
 
@@ -244,6 +244,6 @@ impl Loading {
         ensures document { GivesDocument result (ended self.outline) }
         ensures valid { IfOk result IsValid }
     {
-        self.outline.finish()
+        Box::into_inner(self.outline).finish()
     }
 }

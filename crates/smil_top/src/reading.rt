@@ -10,7 +10,7 @@ ghost use Rattle.smil_top.specs.Running.{Ends, HasEvaluated, IsRunning, Ran, Ran
 
 use super::run::{NumberedLine, Run};
 use super::status::Status;
-use smil_model::Steps;
+use smil_interval::Steps;
 use smil_outside::{Line, LineReader, Sink, Source};
 use std::alloc::{AllocError, Global};
 use std::sync::ledger::Ledger;
@@ -49,12 +49,12 @@ impl Run {
         ensures ran { (checks : Bool) → IsRunning checks self.old (cut_of []) untold
             → Ran checks result self.new (S.rest source.old) (S.rest source.new)
             (K.taken sink.old) (K.taken sink.new) (K.sure_room sink.old) }
+        ensures read_kept { result ≢ Status.ReadFault → S.faults source.new ≡ S.faults source.old }
         ensures read_cause { result ≡ Status.ReadFault
             → HasRisen (S.faults source.old) (S.faults source.new) }
+        ensures write_kept { result ≢ Status.WriteFault → K.faults sink.new ≡ K.faults sink.old }
         ensures write_cause { result ≡ Status.WriteFault
             → HasRisen (K.faults sink.old) (K.faults sink.new) }
-        ensures read_count { S.faults source.old ≤ S.faults source.new }
-        ensures write_count { K.faults sink.old ≤ K.faults sink.new }
         ensures sure { S.never_fails source.old → result ≢ Status.ReadFault }
         ensures counted { steps.old ≤ steps.new }
         ensures evaluated { (checks : Bool) → IsRunning checks self.old (cut_of []) untold
@@ -84,8 +84,8 @@ fn end<K: Sink>(run: &mut Run, sink: &mut K) -> Status
         → IsRunning checks run.old cut told
         → Ends checks result run.new cut told (K.taken sink.old) (K.taken sink.new)
         (K.sure_room sink.old) (K.sure_room sink.new) }
+    ensures kept { result ≢ Status.WriteFault → K.faults sink.new ≡ K.faults sink.old }
     ensures cause { result ≡ Status.WriteFault → HasRisen (K.faults sink.old) (K.faults sink.new) }
-    ensures count { K.faults sink.old ≤ K.faults sink.new }
     ensures read { result ≢ Status.ReadFault }
     ensures evaluated { (cut : CutLines) (told : TranscriptState) (start now : ℕ)
         → IsRunning false run.old cut told

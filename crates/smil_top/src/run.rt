@@ -1,6 +1,6 @@
 //! A session, line by line.
 
-ghost use Rattle.std.specs.Prelude.{◌≡◌, ◌≤◌, ◌-◌, ℕ, Bool, false, suc, List, ◌∷◌, ◌++◌, [], length, min, option_map, None, Some, IfOk, IfSome, OnErr};
+ghost use Rattle.std.specs.Prelude.{◌≡◌, ◌≤◌, ◌-◌, ℕ, Bool, false, suc, List, ◌∷◌, ◌++◌, [], length, min, option_map, None, Some, IfOk, IfSome, OnOk, OnErr};
 ghost use Rattle.smil_outside.specs.Faults.{HasRisen, last_count};
 ghost use Rattle.smil_top.specs.Cut.{CutLines, LoadLines, OrderLines, single, load as load_order, cut_of, unended, with_line};
 ghost use Rattle.smil_top.specs.Session.{Session as Presentations};
@@ -8,14 +8,15 @@ ghost use Rattle.smil_top.specs.Summary.{line_count};
 ghost use Rattle.smil_top.specs.Transcript.{TranscriptState, untold};
 ghost use Rattle.smil_top.specs.Houses.{Keeps};
 ghost use Rattle.smil_top.specs.Evaluations.{Bound, number_of};
-ghost use Rattle.smil_top.specs.Running.{answering, with_order, said, Answers, AnswersOrders, EvaluatesOn, IsOrderCounted, IsRead, IsRunning, IsLine, MakesAnswer, Tells, Writes};
+ghost use Rattle.smil_top.specs.Running.{answering, finished, no_text, with_order, said, Answers, AnswersOrders, EvaluatesOn, IsOrderCounted, IsRead, IsRunning, IsLine, MakesAnswer, Tells, Writes};
 
 use super::answer::Answer;
 use super::counts::Counts;
 use super::fault::Fault;
 use super::load::Load;
 use super::session::Session;
-use smil_model::{Refusal, Steps};
+use smil_interval::Steps;
+use smil_model::Refusal;
 use smil_outside::{Failed, LINE_BYTES, Sink};
 use smil_script::{ends_load, is_blank, opens_load};
 use std::alloc::{AllocError, Global};
@@ -42,7 +43,8 @@ impl Run {
     /// A session before its first line, whose loads are only read or are opened too; unless memory
     /// runs out.
     pub fn new(alloc: Global, checks: bool) -> Result<Run, AllocError>
-        ensures { IfOk result (λ run. IsRunning checks run (cut_of []) untold) }
+        ensures running { IfOk result (λ run. IsRunning checks run (cut_of []) untold) }
+        ensures empty { IfOk result (λ run. run.answer ≡ no_text) }
     {
         Ok(Run {
             session: Session::new(alloc, checks)?,
@@ -52,7 +54,8 @@ impl Run {
         })
     }
 
-    /// Takes in the next line, and writes the answer of the order that is whole with it.
+    /// Takes in the next line, and writes the answer of the order that is whole with it. The answer
+    /// stands until the next line; it is empty where no order is whole with this one.
     pub fn line<K: Sink, L: Ledger>(
         &mut self,
         next: &NumberedLine<'_>,
@@ -65,8 +68,8 @@ impl Run {
             → next.now.number ≡ suc cut.count → IsLine (option_map (λ t. t.now) next.now.text) line
             → Answers checks result self.new (with_line cut line) told (K.taken sink.old)
             (K.taken sink.new) (K.sure_room sink.old) (K.sure_room sink.new) }
+        ensures kept { OnOk result (K.faults sink.new ≡ K.faults sink.old) }
         ensures cause { OnErr result (HasRisen (K.faults sink.old) (K.faults sink.new)) }
-        ensures count { K.faults sink.old ≤ K.faults sink.new }
         ensures counted { steps.old ≤ steps.new }
         ensures evaluated { (cut : CutLines) (told : TranscriptState) (line : List ℕ)
             → IsRunning false self.old cut told
@@ -74,6 +77,7 @@ impl Run {
             → EvaluatesOn self.old.counts self.new.counts cut.whole (with_line cut line).whole
             steps.old steps.new }
     {
+        self.answer.clear();
         match self.load.take() {
             Some(load) => self.line_inside(load, next, sink, steps),
             None => self.line_outside(next, sink, steps),
@@ -90,14 +94,15 @@ impl Run {
     ) -> Result<(), Failed>
         requires short { IfSome next.now.text (λ t. length t.now ≤ LINE_BYTES) }
         requires outside { self.old.load ≡ None }
+        requires empty { self.old.answer ≡ no_text }
         ensures answers { (checks : Bool) (cut : CutLines) (lines : LoadLines)
             (told : TranscriptState) (line : List ℕ) → cut.«open» ≡ Some lines
             → IsRead load told.session.wanted lines → Tells checks self.old cut.whole told
             → next.now.number ≡ suc cut.count → IsLine (option_map (λ t. t.now) next.now.text) line
             → Answers checks result self.new (with_line cut line) told (K.taken sink.old)
             (K.taken sink.new) (K.sure_room sink.old) (K.sure_room sink.new) }
+        ensures kept { OnOk result (K.faults sink.new ≡ K.faults sink.old) }
         ensures cause { OnErr result (HasRisen (K.faults sink.old) (K.faults sink.new)) }
-        ensures count { K.faults sink.old ≤ K.faults sink.new }
         ensures counted { steps.old ≤ steps.new }
         ensures evaluated { (cut : CutLines) (lines : LoadLines) (told : TranscriptState)
             (line : List ℕ) → cut.«open» ≡ Some lines
@@ -128,14 +133,15 @@ impl Run {
     ) -> Result<(), Failed>
         requires short { IfSome next.now.text (λ t. length t.now ≤ LINE_BYTES) }
         requires outside { self.old.load ≡ None }
+        requires empty { self.old.answer ≡ no_text }
         ensures answers { (checks : Bool) (cut : CutLines) (told : TranscriptState) (line : List ℕ)
             → cut.«open» ≡ None
             → Tells checks self.old cut.whole told → next.now.number ≡ suc cut.count
             → IsLine (option_map (λ t. t.now) next.now.text) line
             → Answers checks result self.new (with_line cut line) told (K.taken sink.old)
             (K.taken sink.new) (K.sure_room sink.old) (K.sure_room sink.new) }
+        ensures kept { OnOk result (K.faults sink.new ≡ K.faults sink.old) }
         ensures cause { OnErr result (HasRisen (K.faults sink.old) (K.faults sink.new)) }
-        ensures count { K.faults sink.old ≤ K.faults sink.new }
         ensures counted { steps.old ≤ steps.new }
         ensures evaluated { (cut : CutLines) (told : TranscriptState) (line : List ℕ)
             → cut.«open» ≡ None
@@ -175,14 +181,15 @@ impl Run {
         steps: &mut Steps<L>,
     ) -> Result<(), Failed>
         requires short { length text.now ≤ LINE_BYTES }
+        requires empty { self.old.answer ≡ no_text }
         ensures answers { (checks : Bool) (whole : List OrderLines) (told : TranscriptState)
             → Tells checks self.old whole told
             → AnswersOrders checks result self.new
             (whole ++ single (record { number = number; text = text.now }) ∷ []) told
             (K.taken sink.old) (K.taken sink.new) (K.sure_room sink.old) (K.sure_room sink.new) }
         ensures load { self.new.load ≡ self.old.load }
+        ensures kept { OnOk result (K.faults sink.new ≡ K.faults sink.old) }
         ensures cause { OnErr result (HasRisen (K.faults sink.old) (K.faults sink.new)) }
-        ensures count { K.faults sink.old ≤ K.faults sink.new }
         ensures counted { steps.old ≤ steps.new }
         ensures evaluated { (whole : List OrderLines) (told : TranscriptState)
             → Tells false self.old whole told
@@ -190,7 +197,6 @@ impl Run {
             whole (whole ++ single (record { number = number; text = text.now }) ∷ []) steps.old
             steps.new }
     {
-        self.answer.clear();
         let answered = self
             .session
             .answer_line(number, text, &mut self.answer, steps);
@@ -205,6 +211,7 @@ impl Run {
         sink: &mut K,
         steps: &mut Steps<L>,
     ) -> Result<(), Failed>
+        requires empty { self.old.answer ≡ no_text }
         ensures answers { (checks : Bool) (whole : List OrderLines) (lines : LoadLines)
             (told : TranscriptState)
             → IsRead load told.session.wanted lines → Tells checks self.old whole told
@@ -212,8 +219,8 @@ impl Run {
             told
             (K.taken sink.old) (K.taken sink.new) (K.sure_room sink.old) (K.sure_room sink.new) }
         ensures load { self.new.load ≡ self.old.load }
+        ensures kept { OnOk result (K.faults sink.new ≡ K.faults sink.old) }
         ensures cause { OnErr result (HasRisen (K.faults sink.old) (K.faults sink.new)) }
-        ensures count { K.faults sink.old ≤ K.faults sink.new }
         ensures counted { steps.old ≤ steps.new }
         ensures evaluated { (whole : List OrderLines) (lines : LoadLines) (told : TranscriptState)
             → IsRead load told.session.wanted lines
@@ -232,6 +239,7 @@ impl Run {
         number: u32,
         steps: &mut Steps<L>,
     ) -> Result<(), Fault>
+        requires empty { self.old.answer ≡ no_text }
         ensures answer { (session : Presentations) (lines : LoadLines)
             → Keeps self.old.session session → IsRead load session.wanted lines
             → MakesAnswer result self.new.answer self.new.session session
@@ -248,7 +256,6 @@ impl Run {
             (steps.new - steps.old) }
     {
         let line = load.line;
-        self.answer.clear();
         let given = load.finish(number)?;
         let answered = self
             .session
@@ -262,13 +269,14 @@ impl Run {
             → IsRunning checks self.old cut told
             → AnswersOrders checks result self.new (cut.whole ++ unended cut.«open») told
             (K.taken sink.old) (K.taken sink.new) (K.sure_room sink.old) (K.sure_room sink.new) }
+        ensures kept { OnOk result (K.faults sink.new ≡ K.faults sink.old) }
         ensures cause { OnErr result (HasRisen (K.faults sink.old) (K.faults sink.new)) }
-        ensures count { K.faults sink.old ≤ K.faults sink.new }
         ensures evaluated { (cut : CutLines) (told : TranscriptState) (steps : ℕ)
             → IsRunning false self.old cut told
             → EvaluatesOn self.old.counts self.new.counts cut.whole
             (cut.whole ++ unended cut.«open») steps steps }
     {
+        self.answer.clear();
         match self.load.take() {
             Some(load) => self.tell(
                 Err(Fault {
@@ -285,12 +293,13 @@ impl Run {
     fn tell<K: Sink>(&mut self, answered: Result<(), Fault>, sink: &mut K) -> Result<(), Failed>
         ensures writes { Writes result (K.taken sink.old) (K.taken sink.new) (K.sure_room sink.old)
             (K.sure_room sink.new) (said answered self.old.answer) }
+        ensures answer { self.new.answer ≡ finished answered self.old.answer }
         ensures session { self.new.session ≡ self.old.session }
         ensures load { self.new.load ≡ self.old.load }
         ensures counts { self.new.counts ≡ with_order answered
             (min (line_count (said answered self.old.answer)) last_count) self.old.counts }
+        ensures kept { OnOk result (K.faults sink.new ≡ K.faults sink.old) }
         ensures cause { OnErr result (HasRisen (K.faults sink.old) (K.faults sink.new)) }
-        ensures count { K.faults sink.old ≤ K.faults sink.new }
     {
         self.answer.finish(&answered);
         self.counts.count(&answered, self.answer.lines());

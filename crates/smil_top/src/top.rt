@@ -12,7 +12,8 @@ use super::audit::told_of;
 use super::generated::summary_of;
 use super::reading::Opening;
 use super::status::Status;
-use smil_model::{Steps, WordList};
+use smil_interval::Steps;
+use smil_model::WordList;
 use smil_outside::{Sink, Source, write_all};
 use smil_words::{Mode, read_words};
 use std::alloc::Global;
@@ -68,13 +69,14 @@ pub fn serve<S: Source, K: Sink, L: Ledger>(
     // Only `run`, `check` and `audit` read.
     ensures unread { reads (mode_of words.now) ≡ false → source.new ≡ source.old }
 
-    // Faults come from the source and the sink alone.
+    // A fault of the source or the sink ends the call so, and nothing else does; a count that
+    // stands at the largest `u64` can't rise.
+    ensures read_kept { result ≢ Status.ReadFault → S.faults source.new ≡ S.faults source.old }
     ensures read_cause { result ≡ Status.ReadFault
         → HasRisen (S.faults source.old) (S.faults source.new) }
+    ensures write_kept { result ≢ Status.WriteFault → K.faults sink.new ≡ K.faults sink.old }
     ensures write_cause { result ≡ Status.WriteFault
         → HasRisen (K.faults sink.old) (K.faults sink.new) }
-    ensures read_count { S.faults source.old ≤ S.faults source.new }
-    ensures write_count { K.faults sink.old ≤ K.faults sink.new }
     ensures sure { S.never_fails source.old → result ≢ Status.ReadFault }
 
     // How often intervals were evaluated.
@@ -101,8 +103,8 @@ pub fn serve<S: Source, K: Sink, L: Ledger>(
 fn explain<K: Sink>(sink: &mut K) -> Status
     ensures explains { (text : List ℕ) × Appends (K.taken sink.old) (K.taken sink.new) text
         × Explains result text (K.sure_room sink.old) }
+    ensures kept { result ≢ Status.WriteFault → K.faults sink.new ≡ K.faults sink.old }
     ensures cause { result ≡ Status.WriteFault → HasRisen (K.faults sink.old) (K.faults sink.new) }
-    ensures count { K.faults sink.old ≤ K.faults sink.new }
     ensures written { result ≢ Status.ReadFault }
 {
     match write_all(sink, USAGE) {
@@ -120,12 +122,12 @@ fn audited<S: Source, K: Sink, L: Ledger>(
 ) -> Status
     ensures serves { Serves (Some Mode.Audit) result (S.rest source.old) (S.rest source.new)
         (K.taken sink.old) (K.taken sink.new) (K.sure_room sink.old) }
+    ensures read_kept { result ≢ Status.ReadFault → S.faults source.new ≡ S.faults source.old }
     ensures read_cause { result ≡ Status.ReadFault
         → HasRisen (S.faults source.old) (S.faults source.new) }
+    ensures write_kept { result ≢ Status.WriteFault → K.faults sink.new ≡ K.faults sink.old }
     ensures write_cause { result ≡ Status.WriteFault
         → HasRisen (K.faults sink.old) (K.faults sink.new) }
-    ensures read_count { S.faults source.old ≤ S.faults source.new }
-    ensures write_count { K.faults sink.old ≤ K.faults sink.new }
     ensures sure { S.never_fails source.old → result ≢ Status.ReadFault }
     ensures counted { steps.old ≤ steps.new }
 {
@@ -149,12 +151,12 @@ fn session<S: Source, K: Sink, L: Ledger>(
     ensures serves { Serves (Some (asked_by setup.checks)) result (S.rest source.old)
         (S.rest source.new)
         (K.taken sink.old) (K.taken sink.new) (K.sure_room sink.old) }
+    ensures read_kept { result ≢ Status.ReadFault → S.faults source.new ≡ S.faults source.old }
     ensures read_cause { result ≡ Status.ReadFault
         → HasRisen (S.faults source.old) (S.faults source.new) }
+    ensures write_kept { result ≢ Status.WriteFault → K.faults sink.new ≡ K.faults sink.old }
     ensures write_cause { result ≡ Status.WriteFault
         → HasRisen (K.faults sink.old) (K.faults sink.new) }
-    ensures read_count { S.faults source.old ≤ S.faults source.new }
-    ensures write_count { K.faults sink.old ≤ K.faults sink.new }
     ensures sure { S.never_fails source.old → result ≢ Status.ReadFault }
     ensures counted { steps.old ≤ steps.new }
     ensures evaluated { Evaluates (Some (asked_by setup.checks)) result (S.rest source.old)
@@ -179,8 +181,8 @@ fn generated<K: Sink, L: Ledger>(
 ) -> Status
     ensures generates { (text : List ℕ) × Appends (K.taken sink.old) (K.taken sink.new) text
         × Generates number result text (K.sure_room sink.old) }
+    ensures kept { result ≢ Status.WriteFault → K.faults sink.new ≡ K.faults sink.old }
     ensures cause { result ≡ Status.WriteFault → HasRisen (K.faults sink.old) (K.faults sink.new) }
-    ensures count { K.faults sink.old ≤ K.faults sink.new }
     ensures written { result ≢ Status.ReadFault }
     ensures counted { steps.old ≤ steps.new }
 {

@@ -90,13 +90,6 @@ pub get_inserted : {A : Type 0} (xs : List A) (i : ℕ) (x : A) → i ≤ length
 get_inserted xs i x within =
     ap (slice_get (insert xs i x)) (sym (length-take-le i xs within)) ∙ get_seam (take i xs) (drop i xs) x
 
-pub longer : {A : Type 0} (xs ys : List A) (x : A) → length (xs ++ x ∷ ys) ≡ suc (length (xs ++ ys))
-longer [] ys x = refl
-longer (y ∷ xs) ys x = ap suc (longer xs ys x)
-
-pub long_inserted : {A : Type 0} (xs : List A) (i : ℕ) (x : A) → length (insert xs i x) ≡ suc (length xs)
-long_inserted xs i x = longer (take i xs) (drop i xs) x ∙ ap (λ ys. suc (length ys)) (take-append-drop i xs)
-
 pub sum_inserted : (f : Node → ℕ) (ns : List Node) (i : ℕ) (n : Node) → sum_by f (insert ns i n) ≡ sum_by f ns + f n
 sum_inserted f ns i n =
     omega (arith, sum_by-append f (take i ns) (n ∷ drop i ns), sum_by-cons f n (drop i ns), sum_by-append f (take i ns) (drop i ns), ap (sum_by f) (take-append-drop i ns))

@@ -1,7 +1,6 @@
 -- A default is stated by the node, or by those above it.
-use Rattle.std.proofs.Common.{◌≡◌, refl, sym, ◌∙◌, ap, ℕ, List, [], ◌∷◌, Option, Some, None, Bool, true, false, cond, filter}
-use Rattle.std.specs.Prelude.{◌==◌, unwrap_or, option_map, option_and_then}
-use Rattle.std.proofs.lemmas.Bool.{eqb-true}
+use Rattle.std.proofs.Common.{◌≡◌, refl, ◌∙◌, ap, ℕ, List, [], ◌∷◌, Option, Some, None, Bool, true, false, cond, filter}
+use Rattle.std.specs.Prelude.{unwrap_or, option_and_then}
 use Rattle.smil_model.specs.declared.document.Node.{Node}
 use Rattle.smil_model.specs.declared.document.Restart.{Restart}
 use Rattle.smil_model.specs.declared.document.Restart.TheVariants.{Always}
@@ -17,12 +16,8 @@ use Rattle.smil_model.specs.document.Document.{node_at, lineage, is_element}
 use Rattle.smil_model.specs.document.Defaults.{first_stated, inherited, default_restart, default_fill, restart_of, restart_or, restart_stated, fill_of, fill_or, fill_stated}
 use Rattle.smil_laws.specs.Edited.{IsOrdered}
 use Rattle.smil_tree.specs.Inherited.{own_restart, own_fill}
-use Rattle.smil_laws.proofs.Aside.{find_true}
+use Rattle.smil_tree.specs.Outline.{own, restart_by, fill_by}
 use Rattle.smil_tree.proofs.Families.{chain_of, no_chain}
-
--- a priorityClass states nothing
-abbrev pub own : {A : Type 0} → (Node → Option A) → Node → Option A
-own stated n = cond (is_element n) (stated n) None
 
 module _ {A : Type 0} (stated : Node → Option A) (without : A) (nodes : List Node) where
   -- what stands above a missing node states nothing
@@ -37,16 +32,6 @@ module _ {A : Type 0} (stated : Node → Option A) (without : A) (nodes : List N
       step true = refl
       step false = refl
 
-  pub here : IsOrdered nodes → (s : ℕ) (n : Node) → node_at nodes s ≡ Some n → (v : A) → own stated n ≡ Some v → v ≡ inherited nodes stated without s
-  here o s n at v q = sym (from_node o s n at ∙ ap (λ r. unwrap_or r (inherited nodes stated without n.parent)) q)
-
-  pub above : IsOrdered nodes → (s : ℕ) (n : Node) → node_at nodes s ≡ Some n → own stated n ≡ None → inherited nodes stated without n.parent ≡ inherited nodes stated without s
-  above o s n at q = sym (from_node o s n at ∙ ap (λ r. unwrap_or r (inherited nodes stated without n.parent)) q)
-
-pub none_left : {A : Type 0} (r : Option A) → ((x : A) → r ≡ Some x → ⊥) → r ≡ None
-none_left None never = refl
-none_left (Some x) never = absurd (never x refl)
-
 -- the first that is stated is no value that no node states
 never_first : {A : Type 0} (bad : A) (stated : Node → Option A) (without : A) → (without ≡ bad → ⊥) → ((n : Node) → stated n ≡ Some bad → ⊥) → (ns : List Node) → first_stated stated without ns ≡ bad → ⊥
 never_first bad stated without other never [] q = other q
@@ -58,24 +43,9 @@ never_first bad stated without other never (n ∷ ns) q = step (stated n) refl q
 
 -- what a node states itself, or else what is stated from it upwards
 pub record Inherits {A : Type 0} (itself : Node → Option A) (from : List Node → ℕ → A) (of : List Node → Node → A) : Type 0 where
-  split : (nodes : List Node) (n : Node) → of nodes n ≡ unwrap_or (itself n) (from nodes n.serial)
-
-module _ {A : Type 0} {itself : Node → Option A} {from : List Node → ℕ → A} {of : List Node → Node → A} (rule : Inherits itself from of) (nodes : List Node) (s : ℕ) (n : Node) (at : node_at nodes s ≡ Some n) where
-  at_node : Some (unwrap_or (itself n) (from nodes s)) ≡ option_map (of nodes) (node_at nodes s)
-  at_node =
-      let serial : n.serial ≡ s = eqb-true n.serial s (find_true (λ (m : Node). m.serial == s) nodes n at) in
-      ap Some (ap (λ x. unwrap_or (itself n) (from nodes x)) (sym serial) ∙ sym (rule.split nodes n)) ∙ sym (ap (option_map (of nodes)) at)
-
-  pub stated_itself : (v : A) → itself n ≡ Some v → Some v ≡ option_map (of nodes) (node_at nodes s)
-  stated_itself v q = ap (λ r. Some (unwrap_or r (from nodes s))) (sym q) ∙ at_node
-
-  pub stated_above : (v : A) → itself n ≡ None → v ≡ from nodes s → Some v ≡ option_map (of nodes) (node_at nodes s)
-  stated_above v q is = ap Some is ∙ ap (λ r. Some (unwrap_or r (from nodes s))) (sym q) ∙ at_node
+  pub split : (nodes : List Node) (n : Node) → of nodes n ≡ unwrap_or (itself n) (from nodes n.serial)
 
 -- ---- restart
-
-abbrev pub restart_by : Node → Option Restart
-restart_by n = option_and_then restart_stated n.attrs.restart_default
 
 no_default_restart : (d : Option RestartDefault) → option_and_then restart_stated d ≡ Some restart.ByDefault → ⊥
 no_default_restart None q = cc
@@ -105,9 +75,6 @@ own_restart_given (Some restart.WhenNotActive) e = cc
 own_restart_given (Some restart.Never) e = cc
 
 -- ---- fill
-
-abbrev pub fill_by : Node → Option Fill
-fill_by n = option_and_then fill_stated n.attrs.fill_default
 
 no_default_fill : (d : Option FillDefault) → option_and_then fill_stated d ≡ Some fill.ByDefault → ⊥
 no_default_fill None q = cc

@@ -1,5 +1,5 @@
 -- Tables of lists, with one list changed.
-use Rattle.std.proofs.Common.{length, ◌≡◌, refl, sym, ◌∙◌, ap, ℕ, ◌+◌, ◌-◌, ◌≤◌, List, [], ◌∷◌, ◌++◌, Option, Some, None, Result, Ok, Err, Bool, true, false, cond, insert, filter}
+use Rattle.std.proofs.Common.{length, ◌≡◌, refl, sym, ◌∙◌, ap, ℕ, ◌≤◌, List, [], ◌∷◌, ◌++◌, Option, Some, None, Result, Ok, Err, Bool, true, false, cond, insert, filter}
 use Rattle.std.specs.Prelude.{◌==◌, nat_eq, OnErr, ◌||◌, option_map, unwrap_or, slice_range}
 use Rattle.std.specs.List.{list_any}
 use Rattle.std.specs.Map.{lookup}

@@ -1,3 +1,4 @@
+pub mod Spots
 pub mod Holding
 pub mod Results
 pub mod Tables
@@ -24,3 +25,4 @@ pub mod KinTables
 pub mod KinTrees
 pub mod KinCallers
 pub mod Walks
+pub mod Outlines

@@ -15,7 +15,8 @@ use Rattle.smil_tree.specs.declared.fault.TreeFault.{TreeFault}
 use Rattle.smil_tree.specs.declared.fault.TreeFault.TheVariants.{TooDeep, BadPlace, DuplicateId, TooManyElements, TooManyReferences, Root, Memory}
 use Rattle.smil_tree.specs.Outcomes.{IsFaultOf, passes, may_bear, place_outcome, room_outcome, insert_outcome, and_after}
 use Rattle.smil_tree.proofs.Changed.{fit_few}
-use Rattle.smil_tree.proofs.Cuts.{long_inserted, sum_inserted}
+use Rattle.smil_tree.proofs.Cuts.{sum_inserted}
+use Rattle.smil_tree.proofs.Spots.{long_inserted}
 use Rattle.smil_tree.proofs.Inserted.{Put, put_at, valid_grown}
 
 pub fault_of : {A : Type 0} (outcome : Result A TreeFault) (fault : TreeFault) → outcome ≡ Err fault → IsFaultOf outcome fault

@@ -2,5 +2,6 @@ pub mod Held
 pub mod Inherited
 pub mod TreeFields
 pub mod Kin
+pub mod Outline
 pub mod Outcomes
 pub mod Refusals

@@ -6,6 +6,8 @@ use Rattle.smil_model.specs.declared.document.Node.{Node}
 use Rattle.smil_model.specs.document.Document.{has_id, serial_of}
 use Rattle.smil_model.specs.document.Valid.{IsValid, references}
 use Rattle.smil_tree.specs.Kin.{Families, IsKinOf}
+use Rattle.smil_tree.specs.declared.outline.Outline.{Outline}
+use Rattle.smil_tree.specs.Outline.{IsOutlineOf}
 
 -- whether the node has this id
 abbrev pub bears : List ℕ → Node → Bool
@@ -24,10 +26,16 @@ is_other serial (Some s) = not (s == serial)
 abbrev pub IsTableOf : List (List ℕ × ℕ) → List Node → Type 0
 IsTableOf table nodes = (id : List ℕ) → lookup (bytes_eq id) table ≡ owner id nodes
 
--- the fields of a tree
+-- the fields of a tree without its outline
 pub record Keeps (nodes : List Node) (next : ℕ) (table : List (List ℕ × ℕ)) (total : ℕ)
     (families : Families) : Type 0 where
   pub valid : IsValid (record { nodes = nodes; next = next })
   pub ids : IsTableOf table nodes
   pub total_is : total ≡ references nodes
   pub kin : IsKinOf families nodes
+
+-- the fields of a tree
+pub record IsKept (nodes : List Node) (next : ℕ) (table : List (List ℕ × ℕ)) (total : ℕ)
+    (families : Families) (outline : Outline) : Type 0 where
+  pub keeps : Keeps nodes next table total families
+  pub outline_is : IsOutlineOf nodes outline

@@ -5,6 +5,7 @@ mod fault;
 mod ids;
 mod kin;
 mod nodes;
+mod outline;
 mod references;
 mod tree;
 

@@ -1,26 +1,35 @@
 //! Nodes in document order, found by their serials.
 
-ghost use Rattle.std.specs.Prelude.{◌≡◌, ℕ, ◌<◌, ◌≤◌, ◌==◌, nat_eq, [], length, insert, false, None, IsSome, OnOk, OnErr, slice_get, slice_range, option_copied};
+ghost use Rattle.std.specs.Prelude.{◌≡◌, ℕ, ◌+◌, ◌-◌, ◌^◌, ◌<◌, ◌≤◌, ◌==◌, [], length, insert, false, None, IsSome, OnOk, OnErr, if◌then◌else◌, slice_get, slice_range, option_copied};
+ghost use Rattle.std.specs.FinMap.{get as place_of};
 ghost use Rattle.std.specs.List.{position, list_any};
 ghost use Rattle.std.specs.Iterator.{at_most};
 ghost use Rattle.std.specs.Map.Iter.{TakesFirst, TakesLast, deref};
 ghost use Rattle.smil_model.specs.declared.document.Node.{Node as AnyNode};
 ghost use Rattle.smil_model.specs.document.Document.{node_at};
 ghost use Rattle.smil_model.specs.document.Edits.{changed_at, with_attr as attrs_with, without_attr as attrs_without};
-ghost use Rattle.smil_tree.specs.Held.{cut, held, IsHeld};
-ghost use Rattle.indexmap.specs.IndexMap.{get as key_at, index_map_len, spare, IsUnique};
-ghost use Rattle.slab.specs.Slab.{get, HasRoomFor};
+ghost use Rattle.smil_tree.specs.declared.nodes.Spot.{Spot as AnySpot};
+ghost use Rattle.smil_tree.specs.Held.{AreApart, IsCounted, cut, place_among, serial};
+ghost use Rattle.slab.specs.Slab.{get};
 
-use indexmap::IndexMap;
-use indexmap::map::Iter;
 use slab::Slab;
-use smil_model::{Attr, AttrName, Node, with_attr, without_attr};
+use smil_model::{Attr, AttrName, Node, SerialTable, with_attr, without_attr};
 use std::alloc::{AllocError, Global};
 use std::marker::Model;
+use std::slice::Iter;
 
-/// Nodes, each under a key of a slab, seen as their list in document order.
+/// Where a node is kept: its serial, and its key of the slab.
+#[derive(Clone, Copy)]
+pub struct Spot {
+    pub serial: u32,
+    pub key: usize,
+}
+
+/// Nodes, each under a key of a slab, seen as their list in document order: a spot for each, and
+/// the place of each among them by its serial.
 pub struct Nodes {
-    order: IndexMap<u32, usize>,
+    spots: Vec<Spot>,
+    places: SerialTable,
     slab: Slab<Node>,
 }
 
@@ -28,7 +37,8 @@ impl Drop for Nodes {
     // Dropped by a call of its own, not field by field in each function that drops one.
     fn drop(self) {
         let Nodes {
-            order: _order,
+            spots: _spots,
+            places: _places,
             slab: _slab,
         } = self;
     }
@@ -37,19 +47,19 @@ impl Drop for Nodes {
 impl Model for Nodes {
     ghost use Rattle.std.specs.Prelude.{List};
     ghost use Rattle.smil_model.specs.declared.document.Node.{Node};
-    ghost use Rattle.smil_tree.specs.Held.{held, IsHeld};
+    ghost use Rattle.smil_tree.specs.Held.{held, IsHeld, IsIndexed};
 
     ghost Value = { List Node };
 
-    ghost view = { λ a. held a.slab a.order.entries };
+    ghost view = { λ a. held a.slab a.spots.items };
 
-    ghost invariant = { λ a. IsHeld a.slab a.order.entries };
+    ghost invariant = { λ a. IsHeld a.slab a.spots.items × IsIndexed a.spots.items a.places };
 }
 
 /// The nodes that are left of a walk through nodes in document order, seen as their list.
 #[derive(Drop)]
 pub struct Walk<'a> {
-    entries: Iter<'a, u32, usize>,
+    spots: Iter<'a, Spot>,
     slab: &'a Slab<Node>,
 }
 
@@ -60,9 +70,9 @@ impl<'a> Model for Walk<'a> {
 
     ghost Value = { List Node };
 
-    ghost view = { λ a. held a.slab.now a.entries };
+    ghost view = { λ a. held a.slab.now a.spots.rest.now };
 
-    ghost invariant = { λ a. IsHeld a.slab.now a.entries };
+    ghost invariant = { λ a. IsHeld a.slab.now a.spots.rest.now };
 }
 
 impl<'a> Iterator for Walk<'a> {
@@ -73,8 +83,8 @@ impl<'a> Iterator for Walk<'a> {
     ghost remaining = { λ s. at_most (length s) };
 
     fn next(&mut self) -> Option<&'a Node> {
-        let (_, key) = self.entries.next()?;
-        self.slab.get(*key)
+        let spot = self.spots.next()?;
+        self.slab.get(spot.key)
     }
 }
 
@@ -82,8 +92,8 @@ impl<'a> DoubleEndedIterator for Walk<'a> {
     ghost next_back_gives = { TakesLast deref };
 
     fn next_back(&mut self) -> Option<&'a Node> {
-        let (_, key) = self.entries.next_back()?;
-        self.slab.get(*key)
+        let spot = self.spots.next_back()?;
+        self.slab.get(spot.key)
     }
 }
 
@@ -93,7 +103,8 @@ impl Nodes {
         ensures { result ≡ [] }
     {
         Nodes {
-            order: IndexMap::new(alloc),
+            spots: Vec::new(alloc),
+            places: SerialTable::new(alloc),
             slab: Slab::new(alloc),
         }
     }
@@ -102,7 +113,7 @@ impl Nodes {
     pub fn len(&self) -> usize
         ensures { result ≡ length self.now }
     {
-        self.order.len()
+        self.spots.len()
     }
 
     /// The nodes, one after another in document order. It takes no memory.
@@ -110,7 +121,7 @@ impl Nodes {
         ensures { result ≡ self.now }
     {
         Walk {
-            entries: self.order.iter(),
+            spots: self.spots.iter(),
             slab: &self.slab,
         }
     }
@@ -121,9 +132,8 @@ impl Nodes {
         requires within { end ≤ length self.now }
         ensures { result ≡ slice_range self.now start end }
     {
-        let part = self.order.as_slice().get_range(start..end).unwrap();
         Walk {
-            entries: part.iter(),
+            spots: self.spots[start..end].iter(),
             slab: &self.slab,
         }
     }
@@ -133,8 +143,8 @@ impl Nodes {
     pub fn at(&self, place: usize) -> Option<&Node>
         ensures { option_copied result ≡ slice_get self.now place }
     {
-        let (_, key) = self.order.get_index(place)?;
-        self.slab.get(*key)
+        let spot = self.spots.get(place)?;
+        self.slab.get(spot.key)
     }
 
     /// The position of the node with a serial; None exactly where there is no such node. It takes
@@ -142,26 +152,32 @@ impl Nodes {
     pub fn position(&self, serial: u32) -> Option<usize>
         ensures { result ≡ position (λ (n : AnyNode). n.serial == serial) self.now }
     {
-        self.order.get_index_of(&serial)
+        self.places.get(serial)
     }
 
     /// The node with a serial; None exactly where there is no such node. It takes no memory.
     pub fn get(&self, serial: u32) -> Option<&Node>
         ensures { option_copied result ≡ node_at self.now serial }
     {
-        let key = key_of(&self.order, serial)?;
-        self.slab.get(key)
+        let place = self.places.get(serial)?;
+        self.at(place)
     }
 
     /// Inserts a node with a new serial at a place. Where memory runs out the nodes are as before.
     pub fn insert(&mut self, place: usize, node: Node) -> Result<(), AllocError>
         requires within { place ≤ length self.old }
+        requires few { length self.old + 1 < 2 ^ 32 - 1 }
         requires fresh { node_at self.old node.serial ≡ None }
         ensures ok { OnOk result (self.new ≡ insert self.old place node) }
         ensures err { OnErr result (self.new ≡ self.old) }
     {
-        make_room(&mut self.order, &mut self.slab)?;
-        put(&mut self.order, &mut self.slab, place, node);
+        let serial = node.serial;
+        self.spots.reserve(1)?;
+        self.slab.reserve(1)?;
+        self.places.put(serial, place)?;
+        let key = self.slab.insert_reserved(node);
+        self.spots.insert(place, Spot { serial, key }).unwrap();
+        count_from(&mut self.places, &self.spots, place);
         Ok(())
     }
 
@@ -171,9 +187,9 @@ impl Nodes {
         requires within { end ≤ length self.old }
         ensures { self.new ≡ cut place end self.old }
     {
-        let keys = &self.order.values().as_slice()[place..end];
-        remove_each(&mut self.slab, keys);
-        self.order.drain(place..end);
+        remove_each(&mut self.slab, &mut self.places, &self.spots[place..end]);
+        take_out(&mut self.spots, place, end);
+        count_from(&mut self.places, &self.spots, place);
     }
 
     /// Gives the node with a serial an attribute. It takes no memory.
@@ -181,7 +197,8 @@ impl Nodes {
         requires { IsSome (node_at self.old serial) }
         ensures { self.new ≡ changed_at (λ attrs. attrs_with attrs attr) serial self.old }
     {
-        let key = key_of(&self.order, serial).unwrap();
+        let place = self.places.get(serial).unwrap();
+        let key = self.spots[place].key;
         let node = self.slab.get_mut(key).unwrap();
         with_attr(&mut node.attrs, attr);
     }
@@ -191,55 +208,45 @@ impl Nodes {
         requires { IsSome (node_at self.old serial) }
         ensures { self.new ≡ changed_at (λ attrs. attrs_without attrs name) serial self.old }
     {
-        let key = key_of(&self.order, serial).unwrap();
+        let place = self.places.get(serial).unwrap();
+        let key = self.spots[place].key;
         let node = self.slab.get_mut(key).unwrap();
         without_attr(&mut node.attrs, name);
     }
 }
 
-// The key of the node with a serial.
-fn key_of(order: &IndexMap<u32, usize>, serial: u32) -> Option<usize>
-    ensures key { result ≡ key_at nat_eq order.now serial }
-    ensures unique { IsUnique nat_eq order.now }
+// Gives the serials of the spots from a place on their places anew. It takes no memory, since each
+// serial has a place already.
+fn count_from(places: &mut SerialTable, spots: &[Spot], first: usize)
+    requires few { length spots.now < 2 ^ 32 - 1 }
+    requires apart { AreApart serial spots.now }
+    requires counted { IsCounted spots.now places.old first }
+    ensures { (s : ℕ) → place_of places.new s ≡ place_among spots.now s }
 {
-    let place = order.get_index_of(&serial)?;
-    let (_, key) = order.get_index(place)?;
-    Some(*key)
+    for place in first..spots.len() {
+        places.put(spots[place].serial, place).unwrap();
+    }
 }
 
-// Makes room for one more node.
-fn make_room(order: &mut IndexMap<u32, usize>, slab: &mut Slab<Node>) -> Result<(), AllocError>
-    ensures entries { order.new.entries ≡ order.old.entries }
-    ensures slots { slab.new.slots ≡ slab.old.slots }
-    ensures in_order { OnOk result (0 < spare order.new) }
-    ensures in_slab { OnOk result (HasRoomFor slab.new 1) }
+// The spots without those from a place on up to another.
+fn take_out(spots: &mut Vec<Spot>, place: usize, end: usize)
+    requires in_order { place ≤ end }
+    requires within { end ≤ length spots.old.items }
+    ensures { spots.new.items ≡ cut place end spots.old.items }
 {
-    order.reserve(1)?;
-    slab.reserve(1)
+    spots.drain(place..end);
 }
 
-// Puts in a node with a new serial at a place, where there is room.
-fn put(order: &mut IndexMap<u32, usize>, slab: &mut Slab<Node>, place: usize, node: Node)
-    requires in_order { 0 < spare order.old }
-    requires in_slab { HasRoomFor slab.old 1 }
-    requires within { place ≤ index_map_len order.old }
-    requires fresh { key_at nat_eq order.old node.serial ≡ None }
-    requires was_held { IsHeld slab.old order.old.entries }
-    ensures is_held { IsHeld slab.new order.new.entries }
-    ensures nodes { held slab.new order.new.entries
-        ≡ insert (held slab.old order.old.entries) place node }
-{
-    let serial = node.serial;
-    let key = slab.insert_reserved(node);
-    order.shift_insert(place, serial, key).unwrap();
-}
-
-// Drops the nodes under these keys.
-fn remove_each(slab: &mut Slab<Node>, keys: &[usize])
-    ensures { (key : ℕ) → list_any (λ k. k == key) keys.now ≡ false
+// Drops the nodes of these spots, and the places of their serials.
+fn remove_each(slab: &mut Slab<Node>, places: &mut SerialTable, spots: &[Spot])
+    ensures nodes { (key : ℕ) → list_any (λ (x : AnySpot). x.key == key) spots.now ≡ false
         → get slab.new key ≡ get slab.old key }
+    ensures places { (s : ℕ) → place_of places.new s
+        ≡ (if list_any (λ (x : AnySpot). x.serial == s) spots.now then None
+        else place_of places.old s) }
 {
-    for key in keys {
-        slab.try_remove(*key);
+    for spot in spots {
+        slab.try_remove(spot.key);
+        places.forget(spot.serial);
     }
 }

@@ -1,26 +1,29 @@
 //! A document that is read and edited in place.
 
-mod defaults;
+pub(crate) mod defaults;
 mod edits;
 mod family;
 mod inserting;
 mod placing;
 mod removing;
-mod spans;
+pub(crate) mod spans;
 
 ghost use Rattle.std.specs.Prelude.{◌≡◌, ℕ, ◌<◌, ◌≤◌, ◌==◌, List, [], ◌∷◌, take, length, true, Some, IsSome, IfOk, OnOk, slice_get, option_map, sum_by};
 ghost use Rattle.std.specs.List.{position as first_place};
 ghost use Rattle.smil_model.specs.declared.document.Node.{Node as AnyNode};
-ghost use Rattle.smil_model.specs.document.Document.{Document, elements, node_at, serial_of, time_parent as time_parent_of, time_children};
+ghost use Rattle.smil_model.specs.document.Document.{Document, elements, node_at, serial_of, serials, time_parent as time_parent_of, time_children};
+ghost use Rattle.smil_model.specs.document.Edits.{place_in};
 ghost use Rattle.smil_model.specs.document.Valid.{IsValid, kind_of, references, references_of};
 ghost use Rattle.smil_model.specs.shown.Orders.{node_of};
-ghost use Rattle.smil_tree.specs.TreeFields.{IsTableOf, Keeps};
+ghost use Rattle.smil_tree.specs.TreeFields.{IsTableOf};
 ghost use Rattle.smil_tree.specs.Kin.{IsKinOf};
+ghost use Rattle.smil_tree.specs.Outline.{IsRowOf};
 
 use self::family::element_from;
 use super::ids::{Ids, note_node};
 use super::kin::Kin;
 use super::nodes::{Nodes, Walk};
+use super::outline::{Outline, OutlineRow};
 use smil_model::{Attrs, Doc, Duplicate, Kind, REFERENCES, Who, references_in};
 use std::alloc::{AllocError, Global};
 use std::marker::Model;
@@ -32,6 +35,7 @@ pub struct Tree {
     kin: Kin,
     ids: Ids,
     references: usize,
+    outline: Outline,
     alloc: Global,
 }
 
@@ -44,6 +48,7 @@ impl Drop for Tree {
             kin: _kin,
             ids: _ids,
             references: _references,
+            outline: _outline,
             alloc: _alloc,
         } = self;
     }
@@ -51,13 +56,14 @@ impl Drop for Tree {
 
 impl Model for Tree {
     ghost use Rattle.smil_model.specs.document.Document.{Document};
-    ghost use Rattle.smil_tree.specs.TreeFields.{Keeps};
+    ghost use Rattle.smil_tree.specs.TreeFields.{IsKept};
 
     ghost Value = { Document };
 
     ghost view = { λ a. record { nodes = a.nodes; next = a.next } };
 
-    ghost invariant = { λ a. Keeps a.nodes a.next a.ids a.references a.kin };
+    ghost invariant = { λ a.
+        IsKept a.nodes a.next a.ids a.references a.kin a.outline };
 }
 
 impl Duplicate for Tree {
@@ -134,29 +140,35 @@ impl Tree {
     }
 
     /// The index of an element among the elements in document order, from 0; None exactly where the
-    /// serial is no element's. It takes a step for each node up to the element, and no memory.
+    /// serial is no element's. It takes no memory.
     pub fn element_index(&self, serial: u32) -> Option<usize>
         ensures { result ≡ first_place (λ (n : AnyNode). n.serial == serial)
             (elements self.now.nodes) }
     {
-        self.nodes
-            .iter()
-            .filter(|node| node.kind.is_element())
-            .position(|node| node.serial == serial)
+        let place = self.nodes.position(serial)?;
+        let row = self.outline.row(place).unwrap();
+        if row.kind.is_element() {
+            Some(row.index as usize)
+        } else {
+            None
+        }
     }
 
     /// The serial of the element at an index among the elements in document order, from 0; None
-    /// exactly where the index is not below the number of elements. It takes a step for each node
-    /// up to the element, and no memory.
+    /// exactly where the index is not below the number of elements. It takes no memory.
     pub fn element_at(&self, index: usize) -> Option<u32>
         ensures { result ≡ serial_of (slice_get (elements self.now.nodes) index) }
     {
-        let node = self
-            .nodes
-            .iter()
-            .filter(|node| node.kind.is_element())
-            .nth(index)?;
-        Some(node.serial)
+        let _kept = &self.next;
+        self.outline.element(index)
+    }
+
+    /// The serials of the elements, in document order. It takes no memory.
+    pub fn elements(&self) -> &[u32]
+        ensures { result.now ≡ serials (elements self.now.nodes) }
+    {
+        let _kept = &self.next;
+        self.outline.elements()
     }
 
     /// The kind of a node. It takes no memory.
@@ -164,7 +176,7 @@ impl Tree {
         requires { IsSome (node_at self.now.nodes serial) }
         ensures { Some result ≡ kind_of (node_at self.now.nodes serial) }
     {
-        self.nodes.get(serial).unwrap().kind
+        self.row(serial).kind
     }
 
     /// The attributes of a node. It takes no memory.
@@ -174,6 +186,16 @@ impl Tree {
             (node_at self.now.nodes serial) }
     {
         &self.nodes.get(serial).unwrap().attrs
+    }
+
+    // What is read most of a node.
+    fn row(&self, serial: u32) -> &OutlineRow
+        requires { IsSome (node_at self.now.nodes serial) }
+        ensures { (n : AnyNode) × (node_at self.now.nodes serial ≡ Some n)
+            × IsRowOf self.now.nodes (place_in self.now.nodes serial) n result.now }
+    {
+        let place = self.nodes.position(serial).unwrap();
+        self.outline.row(place).unwrap()
     }
 }
 
@@ -197,12 +219,16 @@ fn made(alloc: Global, doc: &Doc) -> Result<Tree, AllocError>
     let mut kin = Kin::new(alloc);
     take_in(&mut nodes, &mut kin, doc)?;
     let ids = ids_of(alloc, doc)?;
+    let mut outline = Outline::new(alloc);
+    outline.reserve(nodes.len())?;
+    outline.refresh(&nodes, &kin);
     Ok(Tree {
         nodes,
         next: doc.next(),
         kin,
         ids,
         references: references_of(doc),
+        outline,
         alloc,
     })
 }

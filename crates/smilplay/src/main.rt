@@ -10,7 +10,8 @@ ghost use Rattle.smil_words.specs.Words.{mode_of};
 ghost use Rattle.smil_top.specs.Serving.{Serves, reads};
 ghost use Rattle.smil_top.specs.Words.{exit_number_of};
 
-use smil_model::{Bytes, Steps, WordList};
+use smil_interval::Steps;
+use smil_model::{Bytes, WordList};
 use smil_outside::{Sink, Source, StdSink, StdSource};
 use smil_top::{Call, serve};
 use std::alloc::{AllocError, Global};
@@ -78,12 +79,12 @@ fn play<S: Source, K: Sink, L: Ledger>(
         (S.rest source.old) (S.rest source.new) (K.taken sink.old) (K.taken sink.new)
         (K.sure_room sink.old) }
     ensures unread { reads (mode_of call.now.words.now) ≡ false → source.new ≡ source.old }
+    ensures read_kept { exit_status result ≢ 3 → S.faults source.new ≡ S.faults source.old }
     ensures read_cause { exit_status result ≡ 3
         → HasRisen (S.faults source.old) (S.faults source.new) }
+    ensures write_kept { exit_status result ≢ 4 → K.faults sink.new ≡ K.faults sink.old }
     ensures write_cause { exit_status result ≡ 4
         → HasRisen (K.faults sink.old) (K.faults sink.new) }
-    ensures read_count { S.faults source.old ≤ S.faults source.new }
-    ensures write_count { K.faults sink.old ≤ K.faults sink.new }
     ensures sure { S.never_fails source.old → exit_status result ≢ 3 }
     ensures bound { exit_status result ≤ 6 }
 {

@@ -54,23 +54,15 @@ pub fn own_row(own: &OwnEntry<'_>, row: PlayFacts) -> PlayFacts
     }
 }
 
-/// What a birth, or else an end, of the time parent leaves of a row. It takes no memory.
-pub fn child(birth: bool, row: PlayFacts) -> PlayFacts
-    ensures { result ≡ child_after birth (not birth) row }
+/// Takes into a row a birth, or else an end, of the time parent. It takes no memory.
+pub fn turn_child(row: &mut PlayFacts, birth: bool)
+    ensures { row.new ≡ child_after birth (not birth) row.old }
 {
+    row.shown_deferred = None;
     if birth {
-        PlayFacts {
-            first_finished: None,
-            last_finished: None,
-            shown_deferred: None,
-            passed: None,
-            ..row
-        }
-    } else {
-        PlayFacts {
-            shown_deferred: None,
-            ..row
-        }
+        row.first_finished = None;
+        row.last_finished = None;
+        row.passed = None;
     }
 }
 

@@ -9,7 +9,6 @@ ghost use Rattle.smil_past.specs.Queues.{AreTurned, HasRoom, MayTakeIn, classes_
 use super::classes::class_at;
 use smil_excl::Queue;
 use smil_model::{Class, Step};
-use smil_stretch::parent_place;
 use smil_tree::Tree;
 use std::alloc::{AllocError, Global};
 
@@ -90,7 +89,7 @@ fn leave(queues: &mut [Queue], tree: &Tree, who: u32)
     ensures { AreTurned queues.old queues.new tree.now.nodes (without_child tree.now.nodes who) }
 {
     tree.valid();
-    if let Some(place) = parent_place(tree, who) {
+    if let Some(place) = tree.parent_place(who) {
         queues[place].leave(who);
     }
 }
@@ -103,7 +102,7 @@ fn pause(queues: &mut [Queue], tree: &Tree, who: u32, rank: u32)
     ensures { AreTurned queues.old queues.new tree.now.nodes (with_paused tree.now.nodes who) }
 {
     tree.valid();
-    if let Some(place) = parent_place(tree, who) {
+    if let Some(place) = tree.parent_place(who) {
         queues[place].pause(who, rank);
     }
 }
@@ -116,7 +115,7 @@ fn defer(queues: &mut [Queue], tree: &Tree, who: u32, rank: u32)
     ensures { AreTurned queues.old queues.new tree.now.nodes (with_deferred tree.now.nodes who) }
 {
     tree.valid();
-    if let Some(place) = parent_place(tree, who) {
+    if let Some(place) = tree.parent_place(who) {
         queues[place].defer(who, rank);
     }
 }

@@ -1,18 +1,21 @@
-//! What the items of one element wait for.
+//! What evaluation reads of the document for one element.
 
 ghost use Rattle.std.specs.Prelude.{◌≡◌};
 ghost use Rattle.smil_past.specs.Syncs.{syncs_on};
 
+use crate::makeup::Makeup;
 use smil_instances::Syncbase;
 use smil_model::Edge;
 use std::marker::Model;
 
-/// What the begin and the end items of an element wait for, in their order.
+/// What the begin and the end items of an element wait for, in their order, and what its
+/// attributes tell.
 #[derive(Drop)]
 pub struct SyncbaseRow {
     pub(crate) serial: u32,
     pub(crate) begins: Vec<Syncbase>,
     pub(crate) ends: Vec<Syncbase>,
+    pub(crate) makeup: Makeup,
 }
 
 impl Model for SyncbaseRow {
@@ -20,8 +23,12 @@ impl Model for SyncbaseRow {
 
     ghost Value = { SyncRow };
 
-    ghost view = { λ a.
-        record { serial = a.serial; begins = a.begins.items; ends = a.ends.items } };
+    ghost view = { λ a. record {
+      serial = a.serial;
+      begins = a.begins.items;
+      ends = a.ends.items;
+      makeup = a.makeup;
+    } };
 }
 
 impl SyncbaseRow {

@@ -3,13 +3,11 @@
 ghost use Rattle.std.specs.Prelude.{◌≡◌, None, Some, IsSome, option_map, option_and_then, if◌then◌else◌};
 ghost use Rattle.smil_model.specs.declared.document.Fill.TheVariants as fill;
 ghost use Rattle.smil_model.specs.declared.document.Restart.TheVariants as restart;
-ghost use Rattle.smil_model.specs.document.Defaults.{default_fill, default_restart, fill_of, fill_stated, restart_of, restart_stated};
+ghost use Rattle.smil_model.specs.document.Defaults.{fill_of, fill_stated, restart_of, restart_stated};
 ghost use Rattle.smil_model.specs.document.Document.{node_at, is_element};
-ghost use Rattle.smil_laws.specs.Edited.{IsOrdered};
 ghost use Rattle.smil_tree.specs.Inherited.{own_fill, own_restart};
 
 use super::Tree;
-use crate::nodes::Nodes;
 use smil_model::{Attrs, Fill, FillDefault, Node, Restart, RestartDefault};
 
 impl Tree {
@@ -22,11 +20,7 @@ impl Tree {
             (node_at self.now.nodes serial) }
         ensures stated { result ≡ restart.ByDefault → ⊥ }
     {
-        let node = self.nodes.get(serial).unwrap();
-        match own_restart(&node.attrs) {
-            Some(stated) => stated,
-            None => default_restart(&self.nodes, serial),
-        }
+        self.row(serial).restart
     }
 
     /// The fill of an element: its `fill`, or where that is absent or `default` the `fillDefault`
@@ -38,16 +32,12 @@ impl Tree {
             (node_at self.now.nodes serial) }
         ensures stated { result ≡ fill.ByDefault → ⊥ }
     {
-        let node = self.nodes.get(serial).unwrap();
-        match own_fill(&node.attrs) {
-            Some(stated) => stated,
-            None => default_fill(&self.nodes, serial),
-        }
+        self.row(serial).fill
     }
 }
 
-// The restart that an element states itself; `default` states none.
-fn own_restart(attrs: &Attrs) -> Option<Restart>
+/// The restart that an element states itself; `default` states none.
+pub fn own_restart(attrs: &Attrs) -> Option<Restart>
     ensures { result ≡ own_restart attrs.now.restart }
 {
     match attrs.restart {
@@ -56,23 +46,8 @@ fn own_restart(attrs: &Attrs) -> Option<Restart>
     }
 }
 
-// The restart that the elements from a node upwards state by default.
-fn default_restart(nodes: &Nodes, serial: u32) -> Restart
-    requires { IsOrdered nodes.now }
-    ensures { result ≡ default_restart nodes.now serial }
-{
-    let mut at = serial;
-    while let Some(node) = nodes.get(at) {
-        if let Some(stated) = stated_restart(node) {
-            return stated;
-        }
-        at = node.parent;
-    }
-    Restart::Always
-}
-
-// The fill that an element states itself; `default` states none.
-fn own_fill(attrs: &Attrs) -> Option<Fill>
+/// The fill that an element states itself; `default` states none.
+pub fn own_fill(attrs: &Attrs) -> Option<Fill>
     ensures { result ≡ own_fill attrs.now.fill }
 {
     match attrs.fill {
@@ -81,23 +56,8 @@ fn own_fill(attrs: &Attrs) -> Option<Fill>
     }
 }
 
-// The fill that the elements from a node upwards state by default.
-fn default_fill(nodes: &Nodes, serial: u32) -> Fill
-    requires { IsOrdered nodes.now }
-    ensures { result ≡ default_fill nodes.now serial }
-{
-    let mut at = serial;
-    while let Some(node) = nodes.get(at) {
-        if let Some(stated) = stated_fill(node) {
-            return stated;
-        }
-        at = node.parent;
-    }
-    Fill::Auto
-}
-
-// The restart that a node states as the default; a priorityClass states none.
-fn stated_restart(node: &Node) -> Option<Restart>
+/// The restart that a node states as the default; a priorityClass states none.
+pub fn stated_restart(node: &Node) -> Option<Restart>
     ensures { result ≡ (if is_element node.now then option_and_then restart_stated
         node.now.attrs.restart_default else None) }
 {
@@ -112,8 +72,8 @@ fn stated_restart(node: &Node) -> Option<Restart>
     }
 }
 
-// The fill that a node states as the default; a priorityClass states none.
-fn stated_fill(node: &Node) -> Option<Fill>
+/// The fill that a node states as the default; a priorityClass states none.
+pub fn stated_fill(node: &Node) -> Option<Fill>
     ensures { result ≡ (if is_element node.now then option_and_then fill_stated
         node.now.attrs.fill_default else None) }
 {

@@ -38,6 +38,7 @@ impl Tree {
         }
         rename(&mut self.ids, &self.nodes, serial, &attr)?;
         self.nodes.set(serial, attr);
+        self.outline.refresh(&self.nodes, &self.kin);
         self.references = references;
         Ok(())
     }
@@ -50,6 +51,7 @@ impl Tree {
         let references = self.references_unset(serial, name);
         unname(&mut self.ids, &self.nodes, serial, name);
         self.nodes.unset(serial, name);
+        self.outline.refresh(&self.nodes, &self.kin);
         self.references = references;
     }
 

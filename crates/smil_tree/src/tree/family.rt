@@ -1,10 +1,12 @@
 //! The elements above and below a node.
 
 ghost use Rattle.std.specs.Prelude.{◌≡◌, ◌<◌, None, Some, IsSome, slice_get, find, length, min, if◌then◌else◌};
+ghost use Rattle.smil_model.specs.declared.document.Node.{Node as AnyNode};
 ghost use Rattle.smil_model.specs.document.Document.{node_at, lineage, is_class_kind, is_element, serials, serial_of, time_parent, time_children};
 ghost use Rattle.smil_model.specs.document.Edits.{children};
 ghost use Rattle.smil_model.specs.happening.Queue.{class_of, parent_of};
 ghost use Rattle.smil_laws.specs.Edited.{IsOrdered};
+ghost use Rattle.smil_tree.specs.Outline.{parent_place};
 
 use super::Tree;
 use crate::nodes::Nodes;
@@ -44,8 +46,23 @@ impl Tree {
         requires { IsSome (node_at self.now.nodes serial) }
         ensures { result ≡ serial_of (time_parent self.now.nodes serial) }
     {
-        let parent = self.nodes.get(serial).unwrap().parent;
-        element_from(&self.nodes, parent)
+        match self.row(serial).parent {
+            Some(parent) => Some(parent.serial),
+            None => None,
+        }
+    }
+
+    /// The place of a node's time parent in document order, from 0; None exactly where there is
+    /// none. It takes no memory.
+    pub fn parent_place(&self, serial: u32) -> Option<usize>
+        requires { IsSome (node_at self.now.nodes serial) }
+        ensures { result ≡ parent_place self.now.nodes serial }
+    {
+        self.valid();
+        match self.row(serial).parent {
+            Some(parent) => Some(parent.place as usize),
+            None => None,
+        }
     }
 
     /// The serials of an element's time children, the elements whose time parent it is, in document
@@ -53,7 +70,19 @@ impl Tree {
     pub fn time_children(&self, serial: u32) -> &[u32]
         ensures { result.now ≡ serials (time_children self.now.nodes serial) }
     {
-        self.kin.time_children(serial)
+        match self.nodes.position(serial) {
+            Some(place) => self.time_children_at(place),
+            None => &[],
+        }
+    }
+
+    // The serials of the time children of the node at a place.
+    fn time_children_at(&self, place: usize) -> &[u32]
+        requires { place < length self.now.nodes }
+        ensures { (n : AnyNode) × (slice_get self.now.nodes place ≡ Some n)
+            × (result.now ≡ serials (time_children self.now.nodes n.serial)) }
+    {
+        self.outline.time_children(self.outline.row(place).unwrap())
     }
 
     /// The serial of the time child of a node at a place among its time children, from 0; None

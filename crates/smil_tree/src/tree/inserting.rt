@@ -102,11 +102,13 @@ impl Tree {
         ensures err { OnErr result (self.new ≡ self.old) }
     {
         let references = references_in(&node.attrs);
+        self.outline.reserve(self.nodes.len() + 1)?;
         self.nodes.insert(at, node)?;
         if let Err(fault) = take_note(&mut self.ids, &mut self.kin, &self.nodes, at) {
             self.nodes.remove(at, at + 1);
             return Err(fault);
         }
+        self.outline.refresh(&self.nodes, &self.kin);
         self.references += references;
         self.next += 1;
         Ok(())

@@ -47,6 +47,7 @@ impl Tree {
         self.references -= references_between(&self.nodes, start, end);
         self.kin.shrink(&self.nodes, time_parent, start, end);
         self.nodes.remove(start, end);
+        self.outline.refresh(&self.nodes, &self.kin);
     }
 }
 

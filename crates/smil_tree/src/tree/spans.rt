@@ -29,8 +29,7 @@ impl Tree {
             ≡ descendants self.now.nodes serial }
     {
         let start = self.nodes.position(serial).unwrap();
-        let past = end_of(&self.nodes, &self.kin, serial);
-        (start, past)
+        (start, self.row(serial).past as usize)
     }
 
     /// A node and those below it, in document order. It takes no memory.

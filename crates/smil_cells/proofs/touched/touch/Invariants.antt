@@ -3,13 +3,14 @@ use Rattle.std.specs.Prelude.{◌⊎◌}
 use Rattle.smil_model.specs.declared.document.Node.{Node}
 use Rattle.smil_model.specs.document.Document.{elements, node_at}
 use Rattle.smil_model.specs.document.Closure.{has}
-use Rattle.smil_laws.specs.Seen.{any_shows}
+use Rattle.smil_past.specs.Past.{history_of}
+use Rattle.smil_cells.specs.Shown.{StayIn, any_shows, elements_at}
 use Rattle.smil_cells.proofs.touched.touch.Given as goal
 
 -- an element in whose view an entry shows is there, or such an entry is left
 abbrev pub invariant-loop-entry : goal.invariant-loop-entry
 invariant-loop-entry l = record {
-  more : (e : Node) → node_at (elements l.past.document.nodes) e.serial ≡ Some e → has l.initial.touched e.serial ≡ true → has l.touched e.serial ≡ true;
-  left : (e : Node) → node_at (elements l.past.document.nodes) e.serial ≡ Some e → any_shows l.past.document.nodes l.past.log l.entry-items e.serial ≡ true
-      → (has l.touched e.serial ≡ true) ⊎ (any_shows l.past.document.nodes l.past.log (drop l.entry-index l.entry-items) e.serial ≡ true);
+  more : StayIn l.initial.touched l.touched;
+  left : (e : Node) → node_at (elements l.past.document.nodes) e.serial ≡ Some e → any_shows (history_of l.past) l.entry-items e.serial ≡ true
+      → (has (elements_at l.past.document.nodes l.touched) e.serial ≡ true) ⊎ (any_shows (history_of l.past) (drop l.entry-index l.entry-items) e.serial ≡ true);
 }

@@ -1,17 +1,20 @@
-use Rattle.std.proofs.Common.{◌∙◌, ◌++◌, ◌∷◌, [], sym, ap, append_assoc, append-nil}
-use Rattle.smil_model.specs.document.Document.{serials}
+use Rattle.std.proofs.Common.{◌≡◌, ap, ℕ, ◌<◌, ◌≤◌, true, filter}
+use Rattle.std.proofs.lemmas.Result.{on_ok_weaker}
+use Rattle.std.specs.Prelude.{is_some}
+use Rattle.smil_model.specs.declared.document.Node.{Node}
+use Rattle.smil_model.specs.document.Document.{is_within}
+use Rattle.smil_model.specs.document.Closure.{has}
+use Rattle.smil_cells.proofs.Ordering.{range_put}
+use Rattle.smil_cells.proofs.Showing.{within_there}
 use Rattle.smil_cells.proofs.touched.touch_within.Goals as goal
 
-pub loop-node-init : goal.loop-node-init
-loop-node-init c = ap (λ ns. c.args.touched.now ++ serials ns) (c.into_iter-node-iterator.ensures.into_iter_gives ∙ c.within-node-items.ensures)
-
-pub loop-node-preserved : goal.loop-node-preserved
-loop-node-preserved c =
-    let rest = serials c.next.new.self in
-    ap (λ ss. ss ++ rest) c.in_ok-push.ensures.ok
-    ∙ append_assoc c.loop-node.touched (c.in-Some.node.now.serial ∷ []) rest
-    ∙ ap (λ ns. c.loop-node.touched ++ serials ns) (sym c.in-Some.ensures.steps)
-    ∙ c.loop-node.invariant
-
-pub returns : goal.returns
-returns c = sym (append-nil c.loop-node.touched) ∙ ap (λ ns. c.loop-node.touched ++ serials ns) (sym c.in-None.ensures.steps.0) ∙ c.loop-node.invariant
+pub returns-clause-within : goal.returns-clause-within
+returns-clause-within c =
+    let nodes = c.args.tree.now.nodes in
+    let start = c.span-start.result.0 in
+    let end = c.span-start.result.1 in
+    on_ok_weaker {P = (p : ℕ) → start ≤ p → p < end → has c.put_range.new.places p ≡ true} c.put_range.result
+    (λ all e here q.
+    range_put nodes c.args.tree.now.next c.valid.ensures.numbered start end e.serial (filter (λ (n : Node). is_within nodes c.args.who n.serial) nodes) c.put_range.new.places
+    c.span-start.ensures.within all (ap (λ o. is_some o) here) (within_there nodes c.args.who e here q))
+    c.put_range.ensures.put

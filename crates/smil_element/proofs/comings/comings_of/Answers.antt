@@ -23,6 +23,6 @@ returns c = λ e at.
           ∙ ap (λ t. cond t (coming_repeat h c.args.made.now.simple c.args.present.now.moment c.args.place e) []) (sym w.if-active.false)
     ] in
     both_are h c.args.made.now.interval c.args.made.now.simple c.args.present.now.moment c.args.place e c.active.result c.moved_of.result c.if-active.repeat
-    (c.active.ensures ∙ ap (λ ds. is_active ds c.args.present.now.who) c.book.ensures ∙ ap (is_active h.diary) (sym same))
+    (c.active.ensures ∙ ap (is_active h.diary) (sym same))
     (c.moved_of.ensures e at)
     again

@@ -28,7 +28,7 @@ returns-then-active c = λ e at.
     ∙ ap (coming_end h c.args.present.now.moment c.args.place e) (sym c.in_ok-interval.was)
     ∙ end_moves h c.args.interval c.args.present.now.moment c.args.place e c.outer_stands.result c.active.result
     (c.outer_stands.ensures h c.clocks.ensures ∙ ap (outer_stands h) (sym same)) c.if-outer_stands.false
-    (c.active.ensures ∙ ap (λ ds. is_active ds c.args.present.now.who) c.book.ensures ∙ ap (is_active h.diary) (sym same)) c.if-active.true
+    (c.active.ensures ∙ ap (is_active h.diary) (sym same)) c.if-active.true
 
 pub returns-else-active : goal.returns-else-active
 returns-else-active c = λ e at.
@@ -38,4 +38,4 @@ returns-else-active c = λ e at.
     ∙ ap (coming_begin h c.args.present.now.moment c.args.place e) (sym c.in_ok-interval.was)
     ∙ begin_moves h c.args.interval c.args.present.now.moment c.args.place e c.outer_stands.result c.active.result
     (c.outer_stands.ensures h c.clocks.ensures ∙ ap (outer_stands h) (sym same)) c.if-outer_stands.false
-    (c.active.ensures ∙ ap (λ ds. is_active ds c.args.present.now.who) c.book.ensures ∙ ap (is_active h.diary) (sym same)) c.if-active.false
+    (c.active.ensures ∙ ap (is_active h.diary) (sym same)) c.if-active.false

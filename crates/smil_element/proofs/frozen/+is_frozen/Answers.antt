@@ -1,6 +1,5 @@
 use Rattle.std.proofs.Common.{◌≡◌, ◌∙◌, ap, sym, subst, Option, Some, ℕ, true, arith}
 use Rattle.std.specs.Prelude.{IfSome}
-use Rattle.smil_model.specs.diary.Diary.{is_active}
 use Rattle.smil_model.specs.diary.Lawful.{has_element}
 use Rattle.smil_instances.proofs.Targets.{element_of}
 use Rattle.smil_past.specs.Past.{history_of}
@@ -15,7 +14,7 @@ returns-then-active t c =
     let known : has_element past.document.nodes c.in-Some.who ≡ true = subst (λ (o : Option ℕ). IfSome o (λ w. has_element past.document.nodes w ≡ true)) c.in-Some.is c.requires in
     let e = element_of past.document.nodes c.in-Some.who known in
     active_unfrozen h past.document.next c.possible.ensures.valid.numbered c.in-Some.who e.0 c.active.result e.1
-    (c.active.ensures ∙ ap (λ ds. is_active ds c.in-Some.who) c.book.ensures) c.if-active.true
+    c.active.ensures c.if-active.true
     ∙ ap (frozen_at h) (sym c.in-Some.is)
 
 pub is_frozen-above-requires : goal.is_frozen-above-requires
@@ -35,6 +34,6 @@ returns t c =
     let known : has_element past.document.nodes c.in-Some.who ≡ true = subst (λ (o : Option ℕ). IfSome o (λ w. has_element past.document.nodes w ≡ true)) c.in-Some.is c.requires in
     let e = element_of past.document.nodes c.in-Some.who known in
     resting_frozen h past.document.next c.possible.ensures.valid.numbered c.in-Some.who e.0 c.active.result c.is_frozen-above.result c.rests_frozen.result e.1
-    (c.active.ensures ∙ ap (λ ds. is_active ds c.in-Some.who) c.book.ensures) c.if-active.false
+    c.active.ensures c.if-active.false
     (c.is_frozen-above.ensures ∙ ap (frozen_at h) c.parent_of.ensures.parent) (c.rests_frozen.ensures e.0 e.1)
     ∙ ap (frozen_at h) (sym c.in-Some.is)

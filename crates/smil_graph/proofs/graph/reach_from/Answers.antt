@@ -1,5 +1,5 @@
-use Rattle.std.proofs.Common.{◌≡◌, sym, ◌∙◌, ap, ◌<◌, arith, length, ℕ, List, nat_eq}
-use Rattle.std.specs.HashMap.{get}
+use Rattle.std.proofs.Common.{◌≡◌, sym, ◌∙◌, ap, ◌<◌, arith, length, ℕ, List}
+use Rattle.std.specs.FinMap.{get}
 use Rattle.std.proofs.lemmas.Result.{IfOk-weaker}
 use Rattle.smil_graph.specs.Tables.{serials_of_places, reach_of, AreOf}
 use Rattle.smil_graph.proofs.Kept.{heads_stay}
@@ -24,7 +24,7 @@ returns c =
     (λ reach is set begins.
     is
     ∙ ap (serials_of_places c.args.doc.now.nodes) c.as_slice-2.ensures.keys
-    ∙ reach_is c.args.doc.now c.requires.tree (get nat_eq c.args.tables.now.places) c.requires.tables.indexed c.args.tables.now.heads.items c.requires.tables.headed set c.args.starts.now c.in_ok-found.found.keys c.requires.elements begins
+    ∙ reach_is c.args.doc.now c.requires.tree (get c.args.tables.now.places) c.requires.tables.indexed c.args.tables.now.heads.items c.requires.tables.headed set c.args.starts.now c.in_ok-found.found.keys c.requires.elements begins
     (rw c.as_slice.ensures.value at c.in_ok-found.ensures)
     c.sort_unstable.new.self.keys
     (sorted_rising c.sort_unstable.new.self.keys c.in_ok-sort_unstable.ensures.sorted c.sort_unstable.ensures.unique)

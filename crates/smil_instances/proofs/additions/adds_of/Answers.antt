@@ -1,11 +1,17 @@
 use Rattle.std.proofs.Common.{sym, ◌∙◌, ap, get_or, take, [], ◌∷◌, ◌++◌, Some, None, Vec, Global}
 use Rattle.std.proofs.lemmas.List.{take_all, append-nil}
+use Rattle.smil_model.specs.declared.diary.Entry.{Entry}
+use Rattle.smil_model.specs.reach.Reach.{subject_of}
 use Rattle.smil_instance_rows.specs.declared.cell.Add.{Add}
 use Rattle.smil_instance_rows.proofs.Tables.{no_cell}
 use Rattle.smil_instances.specs.Intake.{adds_to, history_of}
 use Rattle.smil_instances.proofs.Gifts.{more_adds}
 use Rattle.smil_instances.proofs.additions.adds_of.Goals as goal
 use Rattle.smil_instances.proofs.additions.adds_of.Goals.{in-Some+in_ok-push, in_default}
+
+pub given_to-requires-clause-on : goal.given_to-requires-clause-on
+given_to-requires-clause-on c = λ before y q.
+    c.subject-on.ensures ∙ ap (λ (z : Entry). subject_of c.args.arrival.now.history.log.now z.step) (c.last_entry.ensures.value before y q)
 
 pub loop-cell-preserved : goal.loop-cell-preserved
 loop-cell-preserved c = λ before y q.

@@ -1,6 +1,27 @@
-use Rattle.std.proofs.Common.{sym}
+use Rattle.std.proofs.Common.{◌≡◌, sym, ◌∙◌, ap, ℕ, Option, Bool, false}
+use Rattle.smil_model.specs.diary.Diary.{History}
+use Rattle.smil_model.specs.reach.Reach.{subject_of}
+use Rattle.smil_instances.specs.declared.source.Source.{Source}
+use Rattle.smil_instances.specs.Contribution.{may_give}
+use Rattle.smil_instances.specs.Intake.{history_of}
+use Rattle.smil_instances.specs.Sources.{source_at}
 use Rattle.smil_instances.proofs.Concerned.{cell_known}
+use Rattle.smil_instances.proofs.Ungiven.{none_given, none_there}
 use Rattle.smil_instances.proofs.additions.given_to.Goals as goal
+
+pub returns-then-not-may_give : goal.returns-then-not-may_give
+returns-then-not-may_give c = λ before y q.
+    let h : History = history_of c.args.arrival.now.history.tree.now c.args.arrival.now.history.log.now before in
+    let source = c.source-source.ensures ∙ c.requires.dependents.sources c.args.cell in
+    sym (none_given h y c.args.cell
+    (ap (λ (on : Option ℕ). may_give on (source_at h.nodes c.args.cell)) (sym (c.requires.on before y q))
+    ∙ ap (may_give c.args.on) (sym source)
+    ∙ sym c.may_give.ensures ∙ c.if-not-may_give.true))
+
+pub returns-in_err-who : goal.returns-in_err-who
+returns-in_err-who c = λ before y q.
+    c.from_residual.ensures
+    ∙ sym (none_there (history_of c.args.arrival.now.history.tree.now c.args.arrival.now.history.log.now before) y c.args.rows.now c.args.cell c.requires.rows c.in_err-who.ensures)
 
 pub given_item-requires-clause-cell : goal.given_item-requires-clause-cell
 given_item-requires-clause-cell c =

@@ -3,13 +3,14 @@ use Rattle.std.specs.Prelude.{map}
 use Rattle.smil_model.specs.declared.diary.Entry.{Entry}
 use Rattle.smil_model.specs.reach.Reach.{key_of, subject_of}
 use Rattle.smil_laws.specs.Resolved.{is_opening}
+use Rattle.smil_instance_rows.specs.declared.cell.Add.{Add}
 use Rattle.smil_instances.specs.SettledTimes.{settled_rows}
 use Rattle.smil_instances.specs.Sources.{AreThose}
 use Rattle.smil_instance_rows.specs.Changes.{with_adds, Fits}
-use Rattle.smil_instances.specs.Intake.{adds_to, history_of, is_concerned_cell, shape_of, with_remainders}
+use Rattle.smil_instances.specs.Intake.{adds_to, history_of, is_concerned_cell, shape_of, with_remainders, with_trims, AreToItems}
 use Rattle.smil_instances.proofs.Extents.{settled_shape}
 use Rattle.smil_instances.proofs.Hands.{at_hand, timely}
-use Rattle.smil_instances.proofs.Taken.{adds_fit, taken_in, those_have_items}
+use Rattle.smil_instances.proofs.Taken.{adds_fit, adds_to_items, taken_in, taken_in_added, those_have_items}
 use Rattle.smil_instances.proofs.Updates.{adds_shape}
 use Rattle.smil_instances.proofs.intake.take_in.Goals as goal
 
@@ -34,7 +35,7 @@ add_each-requires c =
     let nodes = c.args.arrival.now.history.tree.now.nodes in
     let log = c.args.arrival.now.history.log.now in
     let cells = c.concerned-cells.result.now in
-    subst (Fits c.args.rows.now) (sym (c.as_slice.ensures.value ∙ c.in_ok-adds.ensures before y q))
+    subst (Fits c.args.rows.now) (sym (c.as_slice.ensures.value ∙ c.in_ok-adds_of.ensures before y q))
     (adds_fit nodes log before y cells
     (subst (λ (z : Entry). AreThose (is_concerned_cell nodes (is_opening z.step) (subject_of log z.step) (key_of log z.step)) cells) (c.last_entry-entry.ensures.value before y q) c.concerned-cells.ensures.those)
     c.args.rows.now (c.requires.rows before y q))
@@ -52,8 +53,30 @@ trim_each-requires-clause-rows c =
     ∙ ap (map shape_of) (c.requires.rows hand.past.diary hand.entry hand.is_entry.same_diary)
     ∙ settled_shape (history_of c.args.arrival.now.history.tree.now c.args.arrival.now.history.log.now hand.past.diary)
 
-pub returns-clause-ok : goal.returns-clause-ok
-returns-clause-ok c =
+pub trim_added-requires-clause-items : goal.trim_added-requires-clause-items
+trim_added-requires-clause-items c =
+    let hand = c.requires.hand in
+    let before = hand.past.diary in
+    let y = hand.entry in
+    let q = hand.is_entry.same_diary in
+    let nodes = c.args.arrival.now.history.tree.now.nodes in
+    let log = c.args.arrival.now.history.log.now in
+    let cells = c.concerned-cells.result.now in
+    subst (AreToItems nodes) (sym (c.as_slice-else-is_birth.ensures.value ∙ c.in_ok-adds_of.ensures before y q))
+    (adds_to_items nodes log before y cells
+    (subst (λ (z : Entry). AreThose (is_concerned_cell nodes (is_opening z.step) (subject_of log z.step) (key_of log z.step)) cells) (c.last_entry-entry.ensures.value before y q) c.concerned-cells.ensures.those)
+    c.args.rows.now (c.requires.rows before y q))
+
+pub trim_added-requires-clause-rows : goal.trim_added-requires-clause-rows
+trim_added-requires-clause-rows c =
+    let hand = c.requires.hand in
+    ap (map shape_of) c.in_ok-add_each.ensures.ok
+    ∙ adds_shape c.args.rows.now c.as_slice.result.now
+    ∙ ap (map shape_of) (c.requires.rows hand.past.diary hand.entry hand.is_entry.same_diary)
+    ∙ settled_shape (history_of c.args.arrival.now.history.tree.now c.args.arrival.now.history.log.now hand.past.diary)
+
+pub returns-then-is_birth-clause-ok : goal.returns-then-is_birth-clause-ok
+returns-then-is_birth-clause-ok c =
     let hand = c.requires.hand in
     let before = hand.past.diary in
     let y = hand.entry in
@@ -67,7 +90,31 @@ returns-clause-ok c =
     let those = subst (λ (z : Entry). AreThose (is_concerned_cell document.nodes (is_opening z.step) (subject_of log z.step) (key_of log z.step)) cells) (c.last_entry-entry.ensures.value before y q) c.concerned-cells.ensures.those in
     let added = with_adds rows (adds_to past y cells) in
     c.trim_each.ensures log
-    ∙ ap (λ rs. with_remainders (history_of document log book) rs cells) (c.in_ok-add_each.ensures.ok ∙ ap (with_adds rows) (c.as_slice.ensures.value ∙ c.in_ok-adds.ensures before y q))
+    ∙ ap (λ rs. with_remainders (history_of document log book) rs cells) (c.in_ok-add_each.ensures.ok ∙ ap (with_adds rows) (c.as_slice.ensures.value ∙ c.in_ok-adds_of.ensures before y q))
     ∙ subst (λ (diary : List Entry). with_remainders (history_of document log diary) added cells ≡ settled_rows (history_of document log diary)) (sym q)
     (taken_in document.nodes log before y cells those rows (c.requires.rows before y q) c.entries_are_taken_in.ensures c.only_concerned_items_change.ensures
+    (timely past y document c.args.arrival.now.clocks.now log book (at_hand document c.args.arrival.now.clocks.now log book before y hand q)))
+
+pub returns-else-is_birth-clause-ok : goal.returns-else-is_birth-clause-ok
+returns-else-is_birth-clause-ok c =
+    let hand = c.requires.hand in
+    let before = hand.past.diary in
+    let y = hand.entry in
+    let q = hand.is_entry.same_diary in
+    let document = c.args.arrival.now.history.tree.now in
+    let log = c.args.arrival.now.history.log.now in
+    let book = c.args.arrival.now.history.book.now in
+    let rows = c.args.rows.now in
+    let cells = c.concerned-cells.result.now in
+    let past = history_of document log before in
+    let those = subst (λ (z : Entry). AreThose (is_concerned_cell document.nodes (is_opening z.step) (subject_of log z.step) (key_of log z.step)) cells) (c.last_entry-entry.ensures.value before y q) c.concerned-cells.ensures.those in
+    let closed = ap (λ (z : Entry). is_opening z.step) (sym (c.last_entry-entry.ensures.value before y q)) ∙ sym c.is_birth.ensures ∙ c.if-is_birth.false in
+    let adds = adds_to past y cells in
+    let added = with_adds rows adds in
+    let now = history_of document log book in
+    c.trim_added.ensures log
+    ∙ ap (λ (more : List Add). with_trims now c.add_each.new.rows more) (c.as_slice-else-is_birth.ensures.value ∙ c.in_ok-adds_of.ensures before y q)
+    ∙ ap (λ rs. with_trims now rs adds) (c.in_ok-add_each.ensures.ok ∙ ap (with_adds rows) (c.as_slice.ensures.value ∙ c.in_ok-adds_of.ensures before y q))
+    ∙ subst (λ (diary : List Entry). with_trims (history_of document log diary) added adds ≡ settled_rows (history_of document log diary)) (sym q)
+    (taken_in_added document.nodes log before y cells those rows (c.requires.rows before y q) closed c.entries_are_taken_in.ensures c.only_concerned_items_change.ensures
     (timely past y document c.args.arrival.now.clocks.now log book (at_hand document c.args.arrival.now.clocks.now log book before y hand q)))

@@ -10,6 +10,7 @@ use Rattle.smil_diary.specs.declared.fault.BookFault.TheVariants.{DiaryFull}
 use Rattle.smil_diary.specs.Refusals.{of_book}
 use Rattle.smil_tree.proofs.Results.{on_err}
 use Rattle.smil_live.specs.Moves.{IsTooFull, sought_of}
+use Rattle.smil_live.proofs.RebuiltCounts.{least_anew}
 use Rattle.smil_live.proofs.RebuiltSeek.{IsBack, arrived_back, back_by, may_go_back, most_back, not_after, not_beyond, refused_back, until_same}
 use Rattle.smil_live.proofs.Replays.{not_below}
 use Rattle.smil_live.proofs.replay.cells_at.Given.{Over}
@@ -54,6 +55,12 @@ pub returns-clause-most : goal.returns-clause-most
 returns-clause-most g c =
     most_back (back g (goal.at.returns-clause-most g c).After-diary_until-len) c.in_ok-earlier.ensures.rebuilt (settled_at g (goal.at.returns-clause-most g c).In_ok-settle) c.in_ok-settle.ensures.settled c.in_ok-settle.ensures.goes_on
     g.T.Table.counts c.args.steps.now c.rebuilt.new.steps c.settle.new.steps c.rebuilt.ensures.counted c.settle.ensures.counted c.rebuilt.ensures.most c.in_ok-settle.ensures.most
+
+pub returns-clause-least : goal.returns-clause-least
+returns-clause-least g c =
+    let same = c.in_ok-doc.ensures.doc ∙ c.tree.ensures in
+    least_anew g.T.Table.counts (sought_of c.args.cells.now.presentation c.args.to) c.in_ok-doc.doc c.in_ok-earlier.earlier c.settle.new.self c.args.steps.now c.rebuilt.new.steps c.settle.new.steps (returns-clause-ok g c)
+    (c.in_ok-earlier.ensures.rebuilt.document_is ∙ same) same c.rebuilt.ensures.counted c.settle.ensures.counted c.in_ok-earlier.ensures.least c.in_ok-settle.ensures.least
 
 pub returns-in_err-settle-clause-refused : goal.returns-in_err-settle-clause-refused
 returns-in_err-settle-clause-refused g c =

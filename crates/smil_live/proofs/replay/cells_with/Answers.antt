@@ -7,7 +7,7 @@ use Rattle.smil_tree.proofs.Results.{on_err}
 use Rattle.smil_shown.proofs.PresentMoments.{from_zero}
 use Rattle.smil_live.specs.Moves.{IsReplayed, IsTooFull, IsUnderWay, edited_to, replay_of}
 use Rattle.smil_live.proofs.RebuiltCells.{moment_kept, replay_is}
-use Rattle.smil_live.proofs.RebuiltCounts.{most_rebuilt}
+use Rattle.smil_live.proofs.RebuiltCounts.{least_anew, most_rebuilt}
 use Rattle.smil_live.proofs.replay.cells_with.Given.{Over}
 use Rattle.smil_live.proofs.replay.cells_with.Goals as goal
 use Rattle.smil_live.proofs.replay.cells_with.Goals.{In_ok-rebuilt}
@@ -49,3 +49,9 @@ returns-clause-most g c =
     most_rebuilt g.T.Table.counts (edited_to c.args.cells.now.presentation doc) c.in_ok-rebuilt.rebuilt c.replay_on.new.cells c.args.len (length (elements doc.nodes)) c.args.steps.now c.rebuilt_over.new.steps c.replay_on.new.steps (returns-clause-ok g c)
     c.in_ok-rebuilt.ensures.rebuilt.document_is
     (ap (λ (l : List Entry). length l) c.in_ok-rebuilt.ensures.rebuilt.diary_is ∙ length-take-le c.args.len c.args.cells.now.diary c.requires.rebuild.within) refl c.rebuilt_over.ensures.counted c.replay_on.ensures.counted c.rebuilt_over.ensures.most c.in_ok-replay_on.ensures.most
+
+pub returns-clause-least : goal.returns-clause-least
+returns-clause-least g c =
+    let doc = c.args.graphed.tree in
+    least_anew g.T.Table.counts (edited_to c.args.cells.now.presentation doc) doc c.in_ok-rebuilt.rebuilt c.replay_on.new.cells c.args.steps.now c.rebuilt_over.new.steps c.replay_on.new.steps (returns-clause-ok g c)
+    c.in_ok-rebuilt.ensures.rebuilt.document_is refl c.rebuilt_over.ensures.counted c.replay_on.ensures.counted c.in_ok-rebuilt.ensures.least c.in_ok-replay_on.ensures.least

@@ -8,5 +8,7 @@ returns c = record {
   advance_at_most = refl;
   advance_at_least = refl;
   seek_at_most = refl;
+  seek_at_least = refl;
   set_at_most = refl;
+  set_at_least = refl;
 }

@@ -1,12 +1,12 @@
-use Rattle.std.proofs.Common.{◌≡◌, ℕ, ◌+◌, ◌/◌, ◌<◌, drop}
-use Rattle.smil_model.specs.Tournaments.{IsDecided, IsOff}
+use Rattle.std.proofs.Common.{◌≡◌, ◌≢◌, ℕ, ◌+◌, ◌/◌, ◌<◌, drop}
+use Rattle.smil_model.specs.Tournaments.{IsDecided}
 use Rattle.smil_model.proofs.tournament.decide_above.Given as goal
 
 abbrev pub invariant-loop-decided : goal.invariant-loop-decided
 invariant-loop-decided g l = record {
   above : 0 < l.decided;
   within : l.decided < l.half + l.half;
-  off : (i : ℕ) → 0 < i → i < l.half → IsOff i (l.decided / 2) → IsDecided g.T.Contender.none g.T.Contender.both l.places i;
+  others : (i : ℕ) → 0 < i → i < l.half → i ≢ l.decided / 2 → IsDecided g.T.Contender.none g.T.Contender.both l.places i;
   kept : drop l.half l.places ≡ drop l.half l.initial.places;
 }
 

@@ -12,12 +12,16 @@ pub children_of-requires : goal.children_of-requires
 children_of-requires c =
     ap is_some (rowed_in c.args.tree.now.nodes c.args.schedule.now c.rows-row-items.result.now c.loop-row.row-index (row_without 0) c.valid.ensures.numbered.distinct c.requires c.rows-row-items.ensures c.loop-row-test.true).known
 
+pub is_summed-requires : goal.is_summed-requires
+is_summed-requires c =
+    ap is_some (rowed_in c.args.tree.now.nodes c.args.schedule.now c.rows-row-items.result.now c.loop-row.row-index (row_without 0) c.valid.ensures.numbered.distinct c.requires c.rows-row-items.ensures c.loop-row-test.true).known
+
 pub of-requires : goal.of-requires
 of-requires c =
     let nodes = c.args.tree.now.nodes in
     let is = rowed_in nodes c.args.schedule.now c.rows-row-items.result.now c.loop-row.row-index (row_without 0) c.valid.ensures.numbered.distinct c.requires c.rows-row-items.ensures c.loop-row-test.true in
-    let made : length c.in_ok-children_of.field-0.items ≡ length (time_children nodes (is.element).serial) =
-    ap (λ (cs : List ChildEnd). length cs) (c.in_ok-children_of.ensures is.element is.known) ∙ length-map (time_children nodes (is.element).serial) (named_end is.element) in
+    let made : length c.in_ok-children.children.items ≡ length (time_children nodes (is.element).serial) =
+    ap (λ (cs : List ChildEnd). length cs) (c.in_ok-children.ensures is.element is.known) ∙ length-map (time_children nodes (is.element).serial) (named_end is.element) in
     let few : length (time_children nodes (is.element).serial) ≤ length nodes = few_children nodes (is.element).serial in
     let all : length nodes ≤ 8000 = c.valid.ensures.nodes in
     omega (arith, made, few, all)
@@ -27,7 +31,7 @@ loop-row-preserved c =
     let nodes = c.args.tree.now.nodes in
     let is = rowed_in nodes c.args.schedule.now c.rows-row-items.result.now c.loop-row.row-index (row_without 0) c.valid.ensures.numbered.distinct c.requires c.rows-row-items.ensures c.loop-row-test.true in
     ends_next nodes c.loop-row.ends.items c.push.new.self.items c.loop-row.row-index _ c.in_ok-of.field-0 is c.loop-row.invariant
-    (c.in_ok-of.ensures ∙ c.in_ok-children_of.ensures is.element is.known) c.in_ok-push.ensures.items
+    (c.in_ok-of.ensures ∙ c.in_ok-children.ensures is.element is.known) c.in_ok-push.ensures.items
 
 pub returns : goal.returns
 returns c =

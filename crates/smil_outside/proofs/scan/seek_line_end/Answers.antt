@@ -1,4 +1,4 @@
-use Rattle.std.proofs.Common.{◌≡◌, ◌+◌, ℕ, length, sym, ap, arith}
+use Rattle.std.proofs.Common.{◌≡◌, ◌+◌, ℕ, length, sym, ap, ◌∙◌, arith}
 use Rattle.std.proofs.lemmas.List.{length-append, length-take}
 use Rattle.smil_outside.specs.Lines.{HasNoLineFeed}
 use Rattle.smil_outside.specs.declared.scan.Stop.TheVariants.{Fault, InputEnd}
@@ -17,7 +17,7 @@ loop-at-preserved g c =
       scanning = rw c.bytes-scanned.ensures.value read;
       line = c.in-Ok.ensures.line;
       bound = omega (arith, c.in-Ok.ensures.bound);
-      count = omega (arith, c.in-Ok.ensures.count);
+      kept = c.in-Ok.ensures.kept ∙ i.kept;
       sure = λ never. (c.in-Ok.ensures.sure (i.sure never)).1;
     }
 

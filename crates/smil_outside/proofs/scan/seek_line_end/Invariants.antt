@@ -9,7 +9,7 @@ invariant-loop-at g l = record {
   scanning : ScanState l.fn.window.bytes l.window.bytes l.fn.taken l.taken l.is_long l.scanned (g.S.Source.rest l.fn.source) (g.S.Source.rest l.source);
   line : l.window.line ≡ [];
   bound : l.taken ≤ INPUT_BYTES + WINDOW_BYTES;
-  count : g.S.Source.faults l.fn.source ≤ g.S.Source.faults l.source;
+  kept : g.S.Source.faults l.source ≡ g.S.Source.faults l.fn.source;
   sure : g.S.Source.never_fails l.fn.source → g.S.Source.never_fails l.source;
 }
 

@@ -36,6 +36,6 @@ loop-rest-preserved g c =
       i.0 ++ take n rest,
       cut_twice c.args.bytes.now i.0 rest n i.1,
       Appends-trans _ _ _ i.0 (take n rest) i.2 e.bytes,
-      omega (arith, e.count),
+      e.kept ∙ i.3,
       omega (arith, e.room, e.bound, length-append i.0 (take n rest), length-take n rest),
     )

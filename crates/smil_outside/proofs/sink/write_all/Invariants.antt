@@ -6,7 +6,7 @@ use Rattle.smil_outside.proofs.sink.write_all.Given as goal
 abbrev pub invariant-loop-rest : goal.invariant-loop-rest
 invariant-loop-rest g l =
     (done : List ℕ) × (l.bytes ≡ done ++ l.rest) × Appends (g.K.Sink.taken l.fn.sink) (g.K.Sink.taken l.sink) done
-    × (g.K.Sink.faults l.fn.sink ≤ g.K.Sink.faults l.sink) × (g.K.Sink.sure_room l.fn.sink ≤ g.K.Sink.sure_room l.sink + length done)
+    × (g.K.Sink.faults l.sink ≡ g.K.Sink.faults l.fn.sink) × (g.K.Sink.sure_room l.fn.sink ≤ g.K.Sink.sure_room l.sink + length done)
 
 abbrev pub decreases-loop-rest : goal.decreases-loop-rest
 decreases-loop-rest g l = length l.rest

@@ -20,4 +20,4 @@ returns c = λ e here known.
     subst (λ (ns : List Node). slice_get (elements ns) place ≡ Some e → node_at (elements ns) who ≡ Some e → e.attrs.begin ≡ c.attrs-attrs.result.now.begin → c.in_ok-begin_syncs.field-0.items ≡ syncs_of ns Begin e) c.requires.graph (c.in_ok-begin_syncs.ensures e) here found (ap (λ (a : Attrs). a.begin) attrs) in
     let ends : c.in_ok-end_syncs.field-0.items ≡ syncs_of nodes End e =
     subst (λ (ns : List Node). slice_get (elements ns) place ≡ Some e → node_at (elements ns) who ≡ Some e → e.attrs.«end» ≡ c.attrs-attrs.result.now.«end» → c.in_ok-end_syncs.field-0.items ≡ syncs_of ns End e) c.requires.graph (c.in_ok-end_syncs.ensures e) here found (ap (λ (a : Attrs). a.«end») attrs) in
-    row_is nodes e who c.in_ok-begin_syncs.field-0.items c.in_ok-end_syncs.field-0.items _ refl (sym (stands nodes who e known).serial) begins ends
+    row_is nodes e who c.in_ok-begin_syncs.field-0.items c.in_ok-end_syncs.field-0.items c.makeup_of.result _ refl (sym (stands nodes who e known).serial) begins ends (c.makeup_of.ensures e known)

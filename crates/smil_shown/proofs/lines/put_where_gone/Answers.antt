@@ -3,12 +3,13 @@ use Rattle.std.proofs.lemmas.Int.{to_z-of_z}
 use Rattle.std.specs.Prelude.{is_some, not}
 use Rattle.std.proofs.lemmas.Result.{on_ok_weaker}
 use Rattle.smil_model.specs.shown.Lines.{gone_line}
+use Rattle.smil_report.specs.Words.{who_of}
 use Rattle.smil_shown.proofs.LinesTold.{gone_one, not_gone, still_there}
 use Rattle.smil_shown.proofs.lines.put_where_gone.Goals as goal
 use Rattle.smil_shown.proofs.lines.put_where_gone.Goals.{else-is_element-via-then-is_element+else-is_none, else-is_element-via-else-is_element}
 
-pub returns-in_ok-name-clause-ok : goal.returns-in_ok-name-clause-ok
-returns-in_ok-name-clause-ok c = λ n at.
+pub returns-then-is_none-clause-ok : goal.returns-then-is_none-clause-ok
+returns-then-is_none-clause-ok c = λ n at.
     let before = c.args.scene.tree.now.nodes in
     let after = c.args.after.now.nodes in
     let out = c.args.out.now in
@@ -16,8 +17,8 @@ returns-in_ok-name-clause-ok c = λ n at.
     (ap is_some (sym c.position.ensures) ∙ (c.is_none.ensures ∙ ap not c.if-is_none.true)) in
     on_ok_weaker c.put_gone.result
     (λ made. made
-    ∙ (ap (λ z. out ++ gone_line z c.in_ok-name.name) (to_z-of_z w64 c.args.scene.moment (search rules))
-    ∙ (ap (λ name. out ++ gone_line c.args.scene.moment name) c.in_ok-name.ensures ∙ ap (λ l. out ++ l) (sym told))))
+    ∙ (ap (λ z. out ++ gone_line z (who_of c.name_of.result)) (to_z-of_z w64 c.args.scene.moment (search rules))
+    ∙ (ap (λ name. out ++ gone_line c.args.scene.moment name) c.name_of.ensures ∙ ap (λ l. out ++ l) (sym told))))
     c.put_gone.ensures.ok
 
 pub returns-else-is_element-clause-ok : goal.returns-else-is_element-clause-ok

@@ -1,7 +1,14 @@
+use Rattle.std.proofs.Common.{List, sym, subst}
+use Rattle.smil_model.specs.declared.document.Node.{Node}
+use Rattle.smil_model.specs.document.Valid.{IsValid}
 use Rattle.smil_tree.proofs.Keeping.{keeps_made}
 use Rattle.smil_tree.proofs.tree.made.Goals as goal
 
+pub refresh-requires-clause-valid : goal.refresh-requires-clause-valid
+refresh-requires-clause-valid c = (c.args.doc.now.next, subst (λ (ns : List Node). IsValid (record { nodes = ns; next = c.args.doc.now.next })) (sym c.in_ok-take_in.ensures.nodes) c.requires)
+
 pub invariant_of-result : goal.invariant_of-result
 invariant_of-result c =
-    keeps_made c.args.doc.now c.take_in.new.nodes c.next.result c.in_ok-ids.ids c.references_of.result c.take_in.new.kin
-    c.requires c.in_ok-take_in.ensures.nodes c.next.ensures c.in_ok-ids.ensures c.references_of.ensures c.in_ok-take_in.ensures.kin
+    let kept = keeps_made c.args.doc.now c.take_in.new.nodes c.next.result c.in_ok-ids.ids c.references_of.result c.take_in.new.kin
+    c.requires c.in_ok-take_in.ensures.nodes c.next.ensures c.in_ok-ids.ensures c.references_of.ensures c.in_ok-take_in.ensures.kin in
+    record { keeps = kept; outline_is = c.refresh.ensures }

@@ -21,6 +21,11 @@ insert-requires-clause-fresh c =
     ∙ ap (λ n. node_at (take c.loop-position.position c.args.doc.now.nodes) n.serial) c.in_ok-copy.ensures
     ∙ fresh_at c.args.doc.now.nodes c.loop-position.position node c.requires.valid.numbered.distinct at
 
+pub insert-requires-clause-few : goal.insert-requires-clause-few
+insert-requires-clause-few c =
+    let long = length-take-le c.loop-position.position c.args.doc.now.nodes (omega (arith, c.loop-position-test.true, ap length c.nodes-node-items.ensures)) in
+    omega (arith, ap length c.loop-position.invariant.nodes, long, c.loop-position-test.true, ap length c.nodes-node-items.ensures, c.requires.valid.nodes)
+
 pub insert-requires-clause-within : goal.insert-requires-clause-within
 insert-requires-clause-within c =
     let long = length-take-le c.loop-position.position c.args.doc.now.nodes (omega (arith, c.loop-position-test.true, ap length c.nodes-node-items.ensures)) in

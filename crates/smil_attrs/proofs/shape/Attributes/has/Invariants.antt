@@ -1,4 +1,4 @@
-use Rattle.std.proofs.Common.{◌≡◌, length, IsSome}
+use Rattle.std.proofs.Common.{◌≡◌, length, IsSome, is_some}
 use Rattle.std.specs.Prelude.{bytes_eq}
 use Rattle.std.specs.List.{list_any}
 use Rattle.smil_grammar.specs.Nodes.{WrittenAttr}
@@ -7,8 +7,8 @@ use Rattle.smil_attrs.proofs.shape.Attributes.has.Given as goal
 
 abbrev pub invariant-loop-attribute : goal.invariant-loop-attribute
 invariant-loop-attribute l = record {
-  shaped : IsSome (attributes_in l.left);
-  same : list_any (λ (other : WrittenAttr). bytes_eq other.name l.name) (written_in l.left) ≡ list_any (λ (other : WrittenAttr). bytes_eq other.name l.name) (written_in l.fn.self);
+  shaped : is_some (attributes_in l.left) ≡ is_some (attributes_in l.fn.self);
+  same : IsSome (attributes_in l.left) → list_any (λ (other : WrittenAttr). bytes_eq other.name l.name) (written_in l.left) ≡ list_any (λ (other : WrittenAttr). bytes_eq other.name l.name) (written_in l.fn.self);
 }
 
 abbrev pub decreases-loop-attribute : goal.decreases-loop-attribute

@@ -16,10 +16,13 @@ use Rattle.smil_element.specs.Parts.{coming_meant, meant}
 use Rattle.smil_element.proofs.Latest.{present_fits}
 use Rattle.smil_cells.specs.CellsState.{CellsState, IsFront, IsNext, IsRefusing, WhereTold, first_at, fresh_since}
 use Rattle.smil_rounds.specs.Appended.{MayAppendAll}
+use Rattle.smil_cells.specs.Shown.{elements_at, touched_at}
 use Rattle.smil_cells.specs.Standings.{IsSound, IsSoundUnderMark, standing_of}
 use Rattle.smil_cells.proofs.Refusals.{refused_by}
 use Rattle.smil_cells.proofs.Longer.{kept, refusing, with_entries}
 use Rattle.smil_cells.proofs.Grown.{ComesNext, all_now, came_to, fronted, grows_by, least_fresh, made_now, many_now, may, next_steps, reached_after, some_now, stepped}
+use Rattle.smil_cells.proofs.Putting.{stay_before, stay_listed}
+use Rattle.smil_cells.proofs.Ordering.{still_stands}
 use Rattle.smil_rounds.proofs.Following.{of_element}
 use Rattle.smil_rounds.proofs.Moments.{positive, present_with}
 use Rattle.smil_cells.proofs.cells.Cells.happen.Given.{Over}
@@ -109,7 +112,7 @@ returns-in-Err-clause-full g c =
 pub invariant_of-self-in_err-touch : goal.invariant_of-self-in_err-touch
 invariant_of-self-in_err-touch g c =
     let i = c.self.inside in
-    keeps g (goal.at.invariant_of-self-in_err-touch g c).After-possible (g.T.Table.is_current i.table) (g.T.Table.is_marked i.table) (g.T.Table.has_mark i.table) (Some book_fault.Memory) c.touch.new.touched (λ h now k. k) refl (λ never. cc)
+    keeps g (goal.at.invariant_of-self-in_err-touch g c).After-possible (g.T.Table.is_current i.table) (g.T.Table.is_marked i.table) (g.T.Table.has_mark i.table) (Some book_fault.Memory) i.touched (λ h now k. k) refl (λ never. cc)
 
 pub refresh-requires-clause-moment : goal.refresh-requires-clause-moment
 refresh-requires-clause-moment g c =
@@ -118,7 +121,11 @@ refresh-requires-clause-moment g c =
 
 pub invariant_of-self-in_err-refresh : goal.invariant_of-self-in_err-refresh
 invariant_of-self-in_err-refresh g c =
-    keeps g (goal.at.invariant_of-self-in_err-refresh g c).After-possible (g.T.Table.is_current c.refresh.new.self) (g.T.Table.is_marked c.refresh.new.self) (g.T.Table.has_mark c.refresh.new.self) (Some book_fault.Memory) c.refresh.new.changed c.refresh.ensures.marked c.refresh.ensures.has_mark (λ never. cc)
+    keeps g (goal.at.invariant_of-self-in_err-refresh g c).After-possible (g.T.Table.is_current c.refresh.new.self) (g.T.Table.is_marked c.refresh.new.self) (g.T.Table.has_mark c.refresh.new.self) (Some book_fault.Memory) c.self.inside.touched c.refresh.ensures.marked c.refresh.ensures.has_mark (λ never. cc)
+
+pub invariant_of-self-in_err-put_nodes : goal.invariant_of-self-in_err-put_nodes
+invariant_of-self-in_err-put_nodes g c =
+    keeps g (goal.at.invariant_of-self-in_err-put_nodes g c).After-possible (g.T.Table.is_current c.refresh.new.self) (g.T.Table.is_marked c.refresh.new.self) (g.T.Table.has_mark c.refresh.new.self) (Some book_fault.Memory) c.self.inside.touched c.refresh.ensures.marked c.refresh.ensures.has_mark (λ never. cc)
 
 pub invariant_of-self-2 : goal.invariant_of-self-2
 invariant_of-self-2 g c =
@@ -126,8 +133,8 @@ invariant_of-self-2 g c =
     let all = goal.at.invariant_of-self-2 g c in
     let is = comes g all.After-len-from in
     let now = whole _ _ c.self.invariant.present ∙ positive i.moment c.self.invariant.present.from in
-    keeps g all.After-possible (g.T.Table.is_current c.refresh.new.self) (g.T.Table.is_marked c.refresh.new.self) (g.T.Table.has_mark c.refresh.new.self) None c.refresh.new.changed c.refresh.ensures.marked c.refresh.ensures.has_mark
-    (λ e. subst (λ (x : MarkedHistory). g.T.Table.is_current c.refresh.new.self (past_of.history_of x) (pos (nat_abs i.moment)) → IsSound (g.T.Table.is_current c.refresh.new.self) (standing_of x i.moment None i.mark c.refresh.new.changed)) (sym (grown g all.After-possible))
+    keeps g all.After-possible (g.T.Table.is_current c.refresh.new.self) (g.T.Table.is_marked c.refresh.new.self) (g.T.Table.has_mark c.refresh.new.self) None i.touched c.refresh.ensures.marked c.refresh.ensures.has_mark
+    (λ e. subst (λ (x : MarkedHistory). g.T.Table.is_current c.refresh.new.self (past_of.history_of x) (pos (nat_abs i.moment)) → IsSound (g.T.Table.is_current c.refresh.new.self) (standing_of x i.moment None i.mark i.touched)) (sym (grown g all.After-possible))
     (λ current. record { state = is.state; reached = reached_after i.past i.moment (coming_meant c.args.coming) is; current = current })
     (subst (λ (v : ℤ). g.T.Table.is_current c.refresh.new.self (past_of.history_of c.append_all.new.past) v) now c.in_ok-refresh.ensures.current))
 
@@ -137,26 +144,43 @@ returns-clause-next g c =
     let all = goal.at.returns-clause-next g c in
     let is = comes g all.After-len-from in
     let next = coming_meant c.args.coming in
-    subst (λ (s : CellsState). IsNext s (standing_of c.append_all.new.past i.moment None i.mark c.refresh.new.changed)) c.self.view_is
-    (came_to i.past i.moment _ (next_steps i.past i.moment next) i.fault i.mark i.touched c.touch.new.touched c.refresh.new.changed c.len-from.result (whole _ _ c.self.invariant.present ∙ positive i.moment c.self.invariant.present.from) (c.len-from.ensures.value ∙ ap (λ (l : List AnyEntry). length l) c.book.ensures)
-    c.other_views_stay.ensures is.state.document.numbered c.self.invariant.lens (stepped i.past i.moment next is) (grows_by i.past i.moment next is) c.in_ok-refresh.ensures.more
-    c.append_all.new.past (grown g all.After-possible) c.possible.ensures.few c.in_ok-touch.ensures.more c.in_ok-touch.ensures.shown c.in_ok-refresh.ensures.changed)
+    let new = c.append_all.new.past in
+    let same = ap (λ (x : MarkedHistory). x.document) (grown g all.After-possible) in
+    let before = elements_at i.past.document.nodes c.args.places.now in
+    let mid = elements_at new.document.nodes c.touch.new.touched in
+    let after = elements_at new.document.nodes c.put_nodes.new.places in
+    subst (λ (s : CellsState). IsNext (touched_at s c.args.places.now) (standing_of new i.moment None i.mark after)) c.self.view_is
+    (came_to i.past i.moment _ (next_steps i.past i.moment next) i.fault i.mark before mid after c.len-from.result (whole _ _ c.self.invariant.present ∙ positive i.moment c.self.invariant.present.from) (c.len-from.ensures.value ∙ ap (λ (l : List AnyEntry). length l) c.book.ensures)
+    is.state.document.numbered c.self.invariant.lens (stepped i.past i.moment next is) (grows_by i.past i.moment next is) (still_stands new.document.nodes c.touch.new.touched c.put_nodes.new.places c.in_ok-put_nodes.ensures.more)
+    new (grown g all.After-possible) c.possible.ensures.few (stay_listed i.past.document new same c.args.places.now c.touch.new.touched c.in_ok-touch.ensures.more) c.in_ok-touch.ensures.shown
+    (stay_before _ c.len-from.result c.refresh.new.changed c.put_nodes.new.places new c.tree.result.now c.tree.ensures c.in_ok-put_nodes.ensures.put c.in_ok-refresh.ensures.changed))
 
 pub returns-clause-least : goal.returns-clause-least
 returns-clause-least g c =
     let i = c.self.inside in
     let all = goal.at.returns-clause-least g c in
-    subst (λ (s : CellsState). WhereTold g.T.Table.counts (fresh_since s (standing_of c.append_all.new.past i.moment None i.mark c.refresh.new.changed) ≤ c.refresh.new.steps - c.args.steps.now)) c.self.view_is
-    (least_fresh i.past i.moment _ (next_steps i.past i.moment (coming_meant c.args.coming)) i.fault i.mark i.touched c.touch.new.touched c.refresh.new.changed c.len-from.result (whole _ _ c.self.invariant.present ∙ positive i.moment c.self.invariant.present.from) (c.len-from.ensures.value ∙ ap (λ (l : List AnyEntry). length l) c.book.ensures)
+    subst (λ (s : CellsState). WhereTold g.T.Table.counts (fresh_since s (standing_of c.append_all.new.past i.moment None i.mark i.touched) ≤ c.refresh.new.steps - c.args.steps.now)) c.self.view_is
+    (least_fresh i.past i.moment _ (next_steps i.past i.moment (coming_meant c.args.coming)) i.fault i.mark i.touched i.touched i.touched c.len-from.result (whole _ _ c.self.invariant.present ∙ positive i.moment c.self.invariant.present.from) (c.len-from.ensures.value ∙ ap (λ (l : List AnyEntry). length l) c.book.ensures)
     g.T.Table.counts (c.refresh.new.steps - c.args.steps.now) c.append_all.new.past (grown g all.After-possible) c.in_ok-refresh.ensures.least)
 
 pub returns-in_err-refresh-clause-refused : goal.returns-in_err-refresh-clause-refused
 returns-in_err-refresh-clause-refused g c =
     let i = c.self.inside in
     let before = standing_of i.past i.moment i.fault i.mark i.touched in
-    let new = standing_of c.append_all.new.past i.moment (Some book_fault.Memory) i.mark c.refresh.new.changed in
+    let new = standing_of c.append_all.new.past i.moment (Some book_fault.Memory) i.mark i.touched in
     subst (λ (s : CellsState). IfErr c.from_residual-in_err-refresh.result (IsRefusing s new)) c.self.view_is
     (refused_by c.from_residual-in_err-refresh.result (λ (f : AnyFault). f ≡ book_fault.Memory) (IsRefusing before new)
     (λ f p. subst (λ (k : AnyFault). IsRefusing before new k) (sym p)
-    (refusing i.past c.append_all.new.past (with_entries i.past c.append_all.new.past _ c.in_default.ensures.ok) c.self.invariant.lens i.moment i.fault book_fault.Memory i.mark i.touched c.refresh.new.changed))
+    (refusing i.past c.append_all.new.past (with_entries i.past c.append_all.new.past _ c.in_default.ensures.ok) c.self.invariant.lens i.moment i.fault book_fault.Memory i.mark i.touched i.touched))
     c.from_residual-in_err-refresh.ensures.1)
+
+pub returns-in_err-put_nodes-clause-refused : goal.returns-in_err-put_nodes-clause-refused
+returns-in_err-put_nodes-clause-refused g c =
+    let i = c.self.inside in
+    let before = standing_of i.past i.moment i.fault i.mark i.touched in
+    let new = standing_of c.append_all.new.past i.moment (Some book_fault.Memory) i.mark i.touched in
+    subst (λ (s : CellsState). IfErr c.from_residual-in_err-put_nodes.result (IsRefusing s new)) c.self.view_is
+    (refused_by c.from_residual-in_err-put_nodes.result (λ (f : AnyFault). f ≡ book_fault.Memory) (IsRefusing before new)
+    (λ f p. subst (λ (k : AnyFault). IsRefusing before new k) (sym p)
+    (refusing i.past c.append_all.new.past (with_entries i.past c.append_all.new.past _ c.in_default.ensures.ok) c.self.invariant.lens i.moment i.fault book_fault.Memory i.mark i.touched i.touched))
+    c.from_residual-in_err-put_nodes.ensures.1)

@@ -1,12 +1,13 @@
-use Rattle.std.proofs.Common.{◌≡◌, ◌∙◌, sym, ap, subst, ℤ, List, None, take, w64, to_z, of_z}
+use Rattle.std.proofs.Common.{◌≡◌, ◌∙◌, sym, ap, subst, ◌-◌, ◌≤◌, ℤ, List, None, take, w64, to_z, of_z}
 use Rattle.std.specs.Prelude.{IfOk}
 use Rattle.std.proofs.lemmas.Int.{to_z-of_z}
 use Rattle.smil_model.specs.declared.diary.Entry.{Entry}
 use Rattle.smil_model.specs.declared.diary.LogEntry.{LogEntry}
 use Rattle.smil_model.specs.diary.Diary.{last_moment}
+use Rattle.smil_model.specs.document.Document.{Document}
 use Rattle.smil_stretch.proofs.Diaries.{lawful_first}
 use Rattle.smil_past.specs.Past.{MarkedHistory, IsPossible, history_of}
-use Rattle.smil_cells.specs.CellsState.{CellsState, IsRebuilt, MayRebuild, cut_log}
+use Rattle.smil_cells.specs.CellsState.{CellsState, IsRebuilt, MayRebuild, WhereTold, any_interval, cut_log, interval_at}
 use Rattle.smil_cells.specs.Standings.{MayBegin, begun, standing_of}
 use Rattle.smil_cells.proofs.Begun.{moment_is, possible_part, may_part, rebuilt_is}
 use Rattle.std.proofs.lemmas.Result.{IfOk-weaker}
@@ -63,3 +64,8 @@ returns-clause-rebuilt g c =
     subst (λ (x : CellsState). IfOk c.over.result (IsRebuilt x doc len)) c.self.view_is
     (IfOk-weaker c.over.result (λ (cells : CellsState). cells ≡ begun c.in_ok-past.past z) (IsRebuilt s doc len)
     (λ cells made. rebuilt_is s doc len may c.in_ok-past.past z cells past_is at made) c.over.ensures.begun)
+
+pub returns-clause-least : goal.returns-clause-least
+returns-clause-least g c =
+    subst (λ (d : Document). IfOk c.over.result (λ (cells : CellsState). WhereTold g.T.Table.counts (any_interval d.nodes (interval_at cells) ≤ c.over.new.steps - c.args.steps.now)))
+    (ap (λ (p : MarkedHistory). p.document) c.in_ok-past.ensures) c.over.ensures.least

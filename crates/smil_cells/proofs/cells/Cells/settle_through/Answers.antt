@@ -1,12 +1,16 @@
-use Rattle.std.proofs.Common.{refl, sym, ◌∙◌, ap, subst, arith, ◌≡◌, ◌+◌, ◌-◌, ◌≤◌, ◌≤ℤ◌, ◌+ℤ◌, ℕ, ℤ, pos, nat_abs, None, w64, to_z, of_z}
+use Rattle.std.proofs.Common.{refl, sym, ◌∙◌, ap, subst, arith, ◌≡◌, ◌+◌, ◌-◌, ◌≤◌, List, ◌≤ℤ◌, ◌+ℤ◌, ℕ, ℤ, pos, nat_abs, None, w64, to_z, of_z}
 use Rattle.smil_model.specs.declared.times.TheConstants.{HORIZON as the_horizon}
 use Rattle.smil_model.specs.shown.Orders.{Presentation}
 use Rattle.smil_cells.specs.CellsState.{NothingBefore, CellsState, WhereTold}
 use Rattle.std.proofs.lemmas.Int.{to_z-of_z}
-use Rattle.smil_cells.proofs.OnWay.{IsRest, rested, below, sooner, no_fewer, begun, nothing_reached, nothing_fresh, onward, fewer_free, reached_on, fresh_on, front_later, touched_anew, goes_on, stay_touched, fresh_at_rest}
+use Rattle.smil_cells.proofs.OnWay.{IsRest, rested, below, sooner, no_fewer, begun, nothing_reached, nothing_fresh, onward, fewer_free, reached_on, fresh_on, front_later, touched_anew, touched_refused, goes_on, goes_on_new, stay_touched, fresh_at_rest}
 use Rattle.smil_model.specs.document.Document.{Document}
 use Rattle.smil_model.specs.document.Valid.{IsNumberedTree}
+use Rattle.smil_model.specs.document.Closure.{has}
+use Rattle.smil_diary.specs.declared.fault.BookFault.TheVariants.{Memory}
+use Rattle.smil_cells.specs.Shown.{elements_at, touched_at}
 use Rattle.smil_cells.specs.Standings.{standing_of}
+use Rattle.smil_cells.proofs.Putting.{passed_at}
 use Rattle.smil_cells.proofs.cells.Cells.settle_through.Given.{Over}
 use Rattle.smil_cells.proofs.cells.Cells.settle_through.Goals as goal
 
@@ -14,7 +18,7 @@ pub loop-coming-init : goal.loop-coming-init
 loop-coming-init g c =
     let s = c.args.self.now in
     let whole = to_z-of_z w64 c.args.until c.ranges.until in (
-      begun s (to_z w64 (of_z w64 c.args.until)) c.requires.sound (subst (λ (v : ℤ). pos s.presentation.now ≤ℤ v) (sym whole) c.requires.from),
+      begun (touched_at s c.args.places) (to_z w64 (of_z w64 c.args.until)) c.requires.sound (subst (λ (v : ℤ). pos s.presentation.now ≤ℤ v) (sym whole) c.requires.from),
       refl,
       subst (λ (v : ℤ). v ≤ℤ the_horizon) (sym whole) c.requires.within,
       omega arith,
@@ -25,24 +29,29 @@ loop-coming-init g c =
 pub loop-coming-smaller : goal.loop-coming-smaller
 loop-coming-smaller g c =
     let v = c.loop-coming.invariant in
-    fewer_free c.args.self.now c.loop-coming.self c.come_to.new.self c.happen.new.self (to_z w64 (of_z w64 c.args.until)) v.0 c.come_to.ensures.passed c.come_to.ensures.within c.in_default-happen.ensures.next
+    let old = touched_at c.args.self.now c.args.places in
+    let s = touched_at c.loop-coming.self c.loop-coming.places in
+    let t = touched_at c.come_to.new.self c.loop-coming.places in
+    let u = touched_at c.happen.new.self c.happen.new.places in
+    fewer_free old s t u (to_z w64 (of_z w64 c.args.until)) v.0 (passed_at c.loop-coming.self c.come_to.new.self c.loop-coming.places c.come_to.ensures.passed) c.come_to.ensures.within c.in_default-happen.ensures.next
 
 pub loop-coming-preserved : goal.loop-coming-preserved
 loop-coming-preserved g c =
     let v = c.loop-coming.invariant in
-    let old = c.args.self.now in
-    let s = c.loop-coming.self in
-    let t = c.come_to.new.self in
-    let u = c.happen.new.self in
+    let old = touched_at c.args.self.now c.args.places in
+    let s = touched_at c.loop-coming.self c.loop-coming.places in
+    let t = touched_at c.come_to.new.self c.loop-coming.places in
+    let u = touched_at c.happen.new.self c.happen.new.places in
+    let passed = passed_at c.loop-coming.self c.come_to.new.self c.loop-coming.places c.come_to.ensures.passed in
     let until = to_z w64 (of_z w64 c.args.until) in
     let e = c.in_default-happen.ensures in
     let a = c.args.steps.now in (
-      onward old s t u until v.0 c.come_to.ensures.passed c.come_to.ensures.within e.next,
+      onward old s t u until v.0 passed c.come_to.ensures.within e.next,
       refl,
       v.2,
       no_fewer a c.loop-coming.steps c.happen.new.steps v.3 e.counted,
-      reached_on old s t u until v.0 c.come_to.ensures.passed c.come_to.ensures.within e.next a c.loop-coming.steps c.happen.new.steps g.T.Table.counts v.3 e.counted v.4 e.most,
-      fresh_on old s t u until v.0 c.come_to.ensures.passed c.come_to.ensures.within e.next a c.loop-coming.steps c.happen.new.steps g.T.Table.counts v.3 e.counted v.5 e.least,
+      reached_on old s t u until v.0 passed c.come_to.ensures.within e.next a c.loop-coming.steps c.happen.new.steps g.T.Table.counts v.3 e.counted v.4 e.most,
+      fresh_on old s t u until v.0 passed c.come_to.ensures.within e.next a c.loop-coming.steps c.happen.new.steps g.T.Table.counts v.3 e.counted v.5 e.least,
     )
 
 pub returns-in-Err-clause-full : goal.returns-in-Err-clause-full
@@ -60,10 +69,15 @@ returns-in-Err-clause-full g c =
     (below p.now c.args.until (subst (λ (x : ℤ). pos p.now ≤ℤ x) (to_z-of_z w64 c.args.until c.ranges.until) c.come_to.ensures.within))
     (c.in-Err.ensures.full e)
 
+pub invariant_of-self : goal.invariant_of-self
+invariant_of-self g c =
+    let i = c.self-2.inside in
+    touched_refused (g.T.Table.is_current i.table) (g.T.Table.is_marked i.table) (g.T.Table.has_mark i.table) i.past i.moment i.fault i.mark i.touched c.take_elements.new.list Memory c.self-2.invariant
+
 pub invariant_of-self-2 : goal.invariant_of-self-2
 invariant_of-self-2 g c =
     let i = c.self-2.inside in
-    touched_anew (g.T.Table.is_current i.table) (g.T.Table.is_marked i.table) (g.T.Table.has_mark i.table) i.past i.moment i.fault i.mark i.touched c.in_ok-touched.touched
+    touched_anew (g.T.Table.is_current i.table) (g.T.Table.is_marked i.table) (g.T.Table.has_mark i.table) i.past i.moment i.fault i.mark i.touched c.take_elements.new.list
     (subst (λ (s : CellsState). s.fault ≡ None) (sym c.self-2.view_is) c.loop-coming.invariant.0.sound) c.self-2.invariant
 
 pub pass_to-requires-clause-quiet : goal.pass_to-requires-clause-quiet
@@ -76,20 +90,22 @@ returns-clause-settled g c =
     let until = to_z w64 (of_z w64 c.args.until) in
     c.pass_to.ensures.ended (λ x e. subst (λ (s : CellsState). NothingBefore s (until +ℤ pos 1)) (sym c.self-2.view_is) c.in_default.ensures.none x e)
 
-at_rest : (g : Over) (c : goal.After-pass_to g) → IsRest c.loop-coming.self c.pass_to.new.self
+at_rest : (g : Over) (c : goal.After-pass_to g) → IsRest (touched_at c.loop-coming.self c.loop-coming.places) c.pass_to.new.self
 at_rest g c =
     let i = c.self-2.inside in
-    rested (standing_of i.past i.moment i.fault i.mark i.touched) c.loop-coming.self c.pass_to.new.self c.in_ok-touched.touched (nat_abs (to_z w64 (of_z w64 c.args.until))) c.tree.result.now.nodes
-    c.self-2.view_is c.pass_to.ensures.moved (ap (λ (x : Document). x.nodes) c.tree.ensures) c.in_ok-touched.ensures.order c.in_ok-touched.ensures.same c.pass_to.ensures.same
+    let places = c.loop-coming.places in
+    rested (touched_at (standing_of i.past i.moment i.fault i.mark i.touched) places) (touched_at c.loop-coming.self places) c.pass_to.new.self c.take_elements.new.list (nat_abs (to_z w64 (of_z w64 c.args.until))) c.tree.result.now.nodes
+    (ap (λ (s : CellsState). touched_at s places) c.self-2.view_is) c.pass_to.ensures.moved (ap (λ (x : Document). x.nodes) c.tree.ensures) c.in_ok-take_elements.ensures.order
+    (λ e here. ap (λ (l : List ℕ). has l e.serial) (c.in_ok-take_elements.ensures.taken ∙ ap (λ (x : Document). elements_at x.nodes places) c.tree.ensures)) c.pass_to.ensures.same
 
 pub returns-clause-goes_on : goal.returns-clause-goes_on
-returns-clause-goes_on g c = goes_on c.args.self.now c.loop-coming.self c.pass_to.new.self (to_z w64 (of_z w64 c.args.until)) c.loop-coming.invariant.0 (at_rest g c)
+returns-clause-goes_on g c = goes_on_new c.args.self.now c.args.places c.pass_to.new.self (goes_on (touched_at c.args.self.now c.args.places) (touched_at c.loop-coming.self c.loop-coming.places) c.pass_to.new.self (to_z w64 (of_z w64 c.args.until)) c.loop-coming.invariant.0 (at_rest g c))
 
 pub returns-clause-more : goal.returns-clause-more
-returns-clause-more g c = stay_touched c.args.self.now c.loop-coming.self c.pass_to.new.self (to_z w64 (of_z w64 c.args.until)) c.loop-coming.invariant.0 (at_rest g c)
+returns-clause-more g c = stay_touched (touched_at c.args.self.now c.args.places) (touched_at c.loop-coming.self c.loop-coming.places) c.pass_to.new.self (to_z w64 (of_z w64 c.args.until)) c.loop-coming.invariant.0 (at_rest g c)
 
 pub returns-clause-least : goal.returns-clause-least
 returns-clause-least g c =
     subst (λ (n : ℕ). WhereTold g.T.Table.counts (n ≤ c.loop-coming.steps - c.args.steps.now))
-    (sym (fresh_at_rest c.args.self.now c.loop-coming.self c.pass_to.new.self (to_z w64 (of_z w64 c.args.until)) c.loop-coming.invariant.0 (at_rest g c)))
+    (sym (fresh_at_rest (touched_at c.args.self.now c.args.places) (touched_at c.loop-coming.self c.loop-coming.places) c.pass_to.new.self (to_z w64 (of_z w64 c.args.until)) c.loop-coming.invariant.0 (at_rest g c)))
     c.loop-coming.invariant.5

@@ -3,11 +3,12 @@ use Rattle.std.specs.Prelude.{◌≤ℤ◌}
 use Rattle.smil_model.specs.declared.limits.TheConstants.{DIARY_ENTRIES}
 use Rattle.smil_model.specs.declared.times.TheConstants.{HORIZON}
 use Rattle.smil_cells.specs.CellsState.{IsOnWay, WhereTold, reached_since, fresh_since}
+use Rattle.smil_cells.specs.Shown.{touched_at}
 use Rattle.smil_cells.proofs.cells.Cells.settle_through.Given as goal
 
 abbrev pub invariant-loop-coming : goal.invariant-loop-coming
 invariant-loop-coming g l =
-    IsOnWay l.initial.self l.self l.until
+    IsOnWay (touched_at l.fn.self l.fn.places) (touched_at l.self l.places) l.until
     × (l.until ≡ l.initial.until)
     × (l.until ≤ℤ HORIZON)
     × (l.initial.steps ≤ l.steps)

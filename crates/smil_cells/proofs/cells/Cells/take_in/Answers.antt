@@ -12,9 +12,12 @@ use Rattle.smil_past.specs.Past as past_of
 use Rattle.smil_past.specs.Past.{MarkedHistory}
 use Rattle.smil_element.proofs.Latest.{present_fits}
 use Rattle.smil_cells.specs.CellsState.{CellsState, IsFront, IsHeard, IsRefusing, NothingBefore, WhereTold, fresh_since, with_logged}
+use Rattle.smil_cells.specs.Shown.{elements_at, touched_at}
 use Rattle.smil_cells.specs.Standings.{IsSound, IsSoundUnderMark, standing_of}
 use Rattle.smil_rounds.proofs.Moments.{positive}
 use Rattle.smil_cells.proofs.Longer.{kept, refusing, with_entry}
+use Rattle.smil_cells.proofs.Ordering.{still_stands}
+use Rattle.smil_cells.proofs.Putting.{stay_before, stay_listed}
 use Rattle.smil_cells.proofs.Refusals.{refused_by}
 use Rattle.smil_cells.proofs.Hearing.{present_heard, is_log_heard, may_hear, sound_heard, front_heard, current_before, came_heard, least_heard}
 use Rattle.smil_cells.proofs.cells.Cells.take_in.Given.{Over}
@@ -76,7 +79,7 @@ pub invariant_of-self-in_err-touch : goal.invariant_of-self-in_err-touch
 invariant_of-self-in_err-touch g c =
     let i = c.self.inside in
     let all = goal.at.invariant_of-self-in_err-touch g c in
-    keeps g all.After-possible (before g all.After-len-from) (g.T.Table.is_current i.table) (g.T.Table.is_marked i.table) (g.T.Table.has_mark i.table) (Some book_fault.Memory) c.touch.new.touched (λ h now k. k) refl (λ never. cc)
+    keeps g all.After-possible (before g all.After-len-from) (g.T.Table.is_current i.table) (g.T.Table.is_marked i.table) (g.T.Table.has_mark i.table) (Some book_fault.Memory) i.touched (λ h now k. k) refl (λ never. cc)
 
 pub refresh-requires-clause-before : goal.refresh-requires-clause-before
 refresh-requires-clause-before g c =
@@ -88,17 +91,22 @@ refresh-requires-clause-before g c =
 pub invariant_of-self-in_err-refresh : goal.invariant_of-self-in_err-refresh
 invariant_of-self-in_err-refresh g c =
     let all = goal.at.invariant_of-self-in_err-refresh g c in
-    keeps g all.After-possible (before g all.After-len-from) (g.T.Table.is_current c.refresh.new.self) (g.T.Table.is_marked c.refresh.new.self) (g.T.Table.has_mark c.refresh.new.self) (Some book_fault.Memory) c.refresh.new.changed c.refresh.ensures.marked c.refresh.ensures.has_mark (λ never. cc)
+    keeps g all.After-possible (before g all.After-len-from) (g.T.Table.is_current c.refresh.new.self) (g.T.Table.is_marked c.refresh.new.self) (g.T.Table.has_mark c.refresh.new.self) (Some book_fault.Memory) c.self.inside.touched c.refresh.ensures.marked c.refresh.ensures.has_mark (λ never. cc)
+
+pub invariant_of-self-in_err-put_nodes : goal.invariant_of-self-in_err-put_nodes
+invariant_of-self-in_err-put_nodes g c =
+    let all = goal.at.invariant_of-self-in_err-put_nodes g c in
+    keeps g all.After-possible (before g all.After-len-from) (g.T.Table.is_current c.refresh.new.self) (g.T.Table.is_marked c.refresh.new.self) (g.T.Table.has_mark c.refresh.new.self) (Some book_fault.Memory) c.self.inside.touched c.refresh.ensures.marked c.refresh.ensures.has_mark (λ never. cc)
 
 pub returns-in_err-refresh-clause-refused : goal.returns-in_err-refresh-clause-refused
 returns-in_err-refresh-clause-refused g c =
     let i = c.self.inside in
     let before = standing_of i.past i.moment i.fault i.mark i.touched in
-    let new = standing_of c.hear.new.self i.moment (Some book_fault.Memory) i.mark c.refresh.new.changed in
+    let new = standing_of c.hear.new.self i.moment (Some book_fault.Memory) i.mark i.touched in
     subst (λ (s : CellsState). IfErr c.from_residual-in_err-refresh.result (IsRefusing s new)) c.self.view_is
     (refused_by c.from_residual-in_err-refresh.result (λ (f : BookFault). f ≡ book_fault.Memory) (IsRefusing before new)
     (λ f p. subst (λ (k : BookFault). IsRefusing before new k) (sym p)
-    (refusing i.past c.hear.new.self (with_entry i.past c.hear.new.self c.args.entry c.in_default.ensures.ok) c.self.invariant.lens i.moment i.fault book_fault.Memory i.mark i.touched c.refresh.new.changed))
+    (refusing i.past c.hear.new.self (with_entry i.past c.hear.new.self c.args.entry c.in_default.ensures.ok) c.self.invariant.lens i.moment i.fault book_fault.Memory i.mark i.touched i.touched))
     c.from_residual-in_err-refresh.ensures.1)
 
 pub invariant_of-self-2 : goal.invariant_of-self-2
@@ -106,23 +114,40 @@ invariant_of-self-2 g c =
     let i = c.self.inside in
     let all = goal.at.invariant_of-self-2 g c in
     let b = before g all.After-len-from in
-    keeps g all.After-possible b (g.T.Table.is_current c.refresh.new.self) (g.T.Table.is_marked c.refresh.new.self) (g.T.Table.has_mark c.refresh.new.self) None c.refresh.new.changed c.refresh.ensures.marked c.refresh.ensures.has_mark
-    (λ e. subst (λ (x : MarkedHistory). g.T.Table.is_current c.refresh.new.self (past_of.history_of x) (pos (nat_abs i.moment)) → IsSound (g.T.Table.is_current c.refresh.new.self) (standing_of x i.moment None i.mark c.refresh.new.changed)) (sym c.in_default.ensures.ok)
-    (λ current. sound_heard i.past i.moment c.args.entry i.fault i.mark i.touched b.was.state b.was.reached b.here c.reached_is_past.ensures c.log_may_be_longer.ensures c.reaches_further.ensures b.quiet (g.T.Table.is_current c.refresh.new.self) c.refresh.new.changed c.requires.may current)
+    keeps g all.After-possible b (g.T.Table.is_current c.refresh.new.self) (g.T.Table.is_marked c.refresh.new.self) (g.T.Table.has_mark c.refresh.new.self) None i.touched c.refresh.ensures.marked c.refresh.ensures.has_mark
+    (λ e. subst (λ (x : MarkedHistory). g.T.Table.is_current c.refresh.new.self (past_of.history_of x) (pos (nat_abs i.moment)) → IsSound (g.T.Table.is_current c.refresh.new.self) (standing_of x i.moment None i.mark i.touched)) (sym c.in_default.ensures.ok)
+    (λ current. sound_heard i.past i.moment c.args.entry i.fault i.mark i.touched b.was.state b.was.reached b.here c.reached_is_past.ensures c.log_may_be_longer.ensures c.reaches_further.ensures b.quiet (g.T.Table.is_current c.refresh.new.self) i.touched c.requires.may current)
     (subst (λ (v : ℤ). g.T.Table.is_current c.refresh.new.self (past_of.history_of c.hear.new.self) v) b.now c.in_ok-refresh.ensures.current))
 
 pub returns-clause-heard : goal.returns-clause-heard
 returns-clause-heard g c =
     let i = c.self.inside in
     let b = before g (goal.at.returns-clause-heard g c).After-len-from in
-    subst (λ (s : CellsState). IsHeard s c.args.entry (standing_of c.hear.new.self i.moment None i.mark c.refresh.new.changed)) c.self.view_is
-    (came_heard i.past i.moment c.args.entry i.fault i.mark i.touched b.was.state b.was.reached b.here c.reached_is_past.ensures c.log_may_be_longer.ensures c.len-from.result _ b.now (c.len-from.ensures.value ∙ ap (λ (l : List AnyEntry). length l) c.book.ensures) c.touch.new.touched c.refresh.new.changed
-    c.other_views_stay.ensures c.self.invariant.lens c.in_ok-refresh.ensures.more
-    c.hear.new.self c.in_default.ensures.ok c.in_ok-touch.ensures.more c.in_ok-touch.ensures.shown c.in_ok-refresh.ensures.changed)
+    let new = c.hear.new.self in
+    let same = ap (λ (x : MarkedHistory). x.document) c.in_default.ensures.ok in
+    let was = elements_at i.past.document.nodes c.args.places.now in
+    let mid = elements_at new.document.nodes c.touch.new.touched in
+    let after = elements_at new.document.nodes c.put_nodes.new.places in
+    subst (λ (s : CellsState). IsHeard (touched_at s c.args.places.now) c.args.entry (standing_of new i.moment None i.mark after)) c.self.view_is
+    (came_heard i.past i.moment c.args.entry i.fault i.mark was b.was.state b.was.reached b.here c.reached_is_past.ensures c.log_may_be_longer.ensures c.len-from.result _ b.now (c.len-from.ensures.value ∙ ap (λ (l : List AnyEntry). length l) c.book.ensures) mid after
+    c.self.invariant.lens (still_stands new.document.nodes c.touch.new.touched c.put_nodes.new.places c.in_ok-put_nodes.ensures.more)
+    new c.in_default.ensures.ok (stay_listed i.past.document new same c.args.places.now c.touch.new.touched c.in_ok-touch.ensures.more) c.in_ok-touch.ensures.shown
+    (stay_before _ c.len-from.result c.refresh.new.changed c.put_nodes.new.places new c.tree.result.now c.tree.ensures c.in_ok-put_nodes.ensures.put c.in_ok-refresh.ensures.changed))
 
 pub returns-clause-least : goal.returns-clause-least
 returns-clause-least g c =
     let i = c.self.inside in
     let b = before g (goal.at.returns-clause-least g c).After-len-from in
-    subst (λ (s : CellsState). WhereTold g.T.Table.counts (fresh_since s (standing_of c.hear.new.self i.moment None i.mark c.refresh.new.changed) ≤ c.refresh.new.steps - c.args.steps.now)) c.self.view_is
-    (least_heard i.past i.moment c.args.entry i.fault i.mark i.touched b.was.state b.was.reached b.here c.reached_is_past.ensures c.log_may_be_longer.ensures c.len-from.result _ b.now (c.len-from.ensures.value ∙ ap (λ (l : List AnyEntry). length l) c.book.ensures) g.T.Table.counts (c.refresh.new.steps - c.args.steps.now) c.refresh.new.changed c.hear.new.self c.in_default.ensures.ok c.in_ok-refresh.ensures.least)
+    subst (λ (s : CellsState). WhereTold g.T.Table.counts (fresh_since s (standing_of c.hear.new.self i.moment None i.mark i.touched) ≤ c.refresh.new.steps - c.args.steps.now)) c.self.view_is
+    (least_heard i.past i.moment c.args.entry i.fault i.mark i.touched b.was.state b.was.reached b.here c.reached_is_past.ensures c.log_may_be_longer.ensures c.len-from.result _ b.now (c.len-from.ensures.value ∙ ap (λ (l : List AnyEntry). length l) c.book.ensures) g.T.Table.counts (c.refresh.new.steps - c.args.steps.now) i.touched c.hear.new.self c.in_default.ensures.ok c.in_ok-refresh.ensures.least)
+
+pub returns-in_err-put_nodes-clause-refused : goal.returns-in_err-put_nodes-clause-refused
+returns-in_err-put_nodes-clause-refused g c =
+    let i = c.self.inside in
+    let before = standing_of i.past i.moment i.fault i.mark i.touched in
+    let new = standing_of c.hear.new.self i.moment (Some book_fault.Memory) i.mark i.touched in
+    subst (λ (s : CellsState). IfErr c.from_residual-in_err-put_nodes.result (IsRefusing s new)) c.self.view_is
+    (refused_by c.from_residual-in_err-put_nodes.result (λ (f : BookFault). f ≡ book_fault.Memory) (IsRefusing before new)
+    (λ f p. subst (λ (k : BookFault). IsRefusing before new k) (sym p)
+    (refusing i.past c.hear.new.self (with_entry i.past c.hear.new.self c.args.entry c.in_default.ensures.ok) c.self.invariant.lens i.moment i.fault book_fault.Memory i.mark i.touched i.touched))
+    c.from_residual-in_err-put_nodes.ensures.1)

@@ -7,11 +7,12 @@ use Rattle.smil_endsync.specs.declared.ends.EndSummary.{EndSummary}
 use Rattle.smil_endsync.proofs.Summaries.{all_is, sum_of, sums}
 use Rattle.smil_endsync.proofs.ends.Ends.all_end.Goals as goal
 
-pub returns : goal.returns
-returns c =
-    let i = c.self.inside in
+pub returns-in-Some : goal.returns-in-Some
+returns-in-Some c =
+    let cs = c.args.self.now in
     c.unwrap_or.ensures
-    ∙ ap (λ (s : EndSummary). unwrap_or s.all Unresolved)
-    (c.top.ensures sum_of sums ∙ ap sum_of c.self.invariant.own)
-    ∙ ap (λ (o : Option Time). unwrap_or o Unresolved) (all_is i.children.items)
-    ∙ ap all_end c.self.view_is
+    ∙ ap (λ (s : EndSummary). unwrap_or s.all Unresolved) (c.in-Some.ensures sum_of sums)
+    ∙ ap (λ (o : Option Time). unwrap_or o Unresolved) (all_is cs)
+
+pub returns-in-None : goal.returns-in-None
+returns-in-None c = c.all_end.ensures ∙ ap all_end (c.deref.ensures.value ∙ c.self.view_is)

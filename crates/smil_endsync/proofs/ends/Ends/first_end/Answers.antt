@@ -4,10 +4,8 @@ use Rattle.smil_endsync.specs.declared.ends.EndSummary.{EndSummary}
 use Rattle.smil_endsync.proofs.Summaries.{first_is, sum_of, sums}
 use Rattle.smil_endsync.proofs.ends.Ends.first_end.Goals as goal
 
-pub returns : goal.returns
-returns c =
-    let i = c.self.inside in
-    ap (λ (s : EndSummary). s.first)
-    (c.top.ensures sum_of sums ∙ ap sum_of c.self.invariant.own)
-    ∙ first_is i.children.items
-    ∙ ap first_end c.self.view_is
+pub returns-in-Some : goal.returns-in-Some
+returns-in-Some c = ap (λ (s : EndSummary). s.first) (c.in-Some.ensures sum_of sums) ∙ first_is c.args.self.now
+
+pub returns-in-None : goal.returns-in-None
+returns-in-None c = c.first_end.ensures ∙ ap first_end (c.deref.ensures.value ∙ c.self.view_is)

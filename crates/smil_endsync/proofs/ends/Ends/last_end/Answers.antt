@@ -9,12 +9,16 @@ use Rattle.smil_endsync.proofs.Children.{latest_is_reduced}
 use Rattle.smil_endsync.proofs.Summaries.{latest_is, sum_of, sums}
 use Rattle.smil_endsync.proofs.ends.Ends.last_end.Goals as goal
 
-pub returns : goal.returns
-returns c =
-    let i = c.self.inside in
+pub returns-in-Some : goal.returns-in-Some
+returns-in-Some c =
+    let cs = c.args.self.now in
     c.unwrap_or.ensures
-    ∙ ap (λ (x : ℤ). unwrap_or c.top.result.latest (At x)) (to_z-of_z w64 c.args.start c.ranges.start)
-    ∙ ap (λ (s : EndSummary). unwrap_or s.latest (At c.args.start))
-    (c.top.ensures sum_of sums ∙ ap sum_of c.self.invariant.own)
-    ∙ ap (λ (o : Option Time). unwrap_or o (At c.args.start)) (latest_is i.children.items ∙ latest_is_reduced i.children.items)
-    ∙ ap (last_end c.args.start) c.self.view_is
+    ∙ ap (λ (x : ℤ). unwrap_or c.in-Some.all.latest (At x)) (to_z-of_z w64 c.args.start c.ranges.start)
+    ∙ ap (λ (s : EndSummary). unwrap_or s.latest (At c.args.start)) (c.in-Some.ensures sum_of sums)
+    ∙ ap (λ (o : Option Time). unwrap_or o (At c.args.start)) (latest_is cs ∙ latest_is_reduced cs)
+
+pub returns-in-None : goal.returns-in-None
+returns-in-None c =
+    c.last_end.ensures
+    ∙ ap (λ (x : ℤ). last_end x c.deref.result.now) (to_z-of_z w64 c.args.start c.ranges.start)
+    ∙ ap (last_end c.args.start) (c.deref.ensures.value ∙ c.self.view_is)

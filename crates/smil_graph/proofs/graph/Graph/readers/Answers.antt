@@ -1,5 +1,5 @@
-use Rattle.std.proofs.Common.{◌∙◌, ap, nat_eq}
-use Rattle.std.specs.HashMap.{get}
+use Rattle.std.proofs.Common.{◌∙◌, ap}
+use Rattle.std.specs.FinMap.{get}
 use Rattle.smil_graph.specs.Graph.{readers_of, OrderedNodes}
 use Rattle.smil_graph.specs.Tables.{row_of}
 use Rattle.smil_graph.proofs.Answered.{readers_answer}
@@ -10,5 +10,5 @@ returns c =
     c.row_of.ensures
     ∙ ap (λ r. row_of r c.place_of.result) c.as_slice.ensures.value
     ∙ ap (row_of c.self.inside.tables.readers.items) c.place_of.ensures
-    ∙ readers_answer c.self.inside.doc.nodes (c.self.invariant.0).distinct (get nat_eq c.self.inside.tables.places) c.self.invariant.1.indexed c.self.inside.tables.time_parents.items c.self.inside.tables.time_children.items c.self.invariant.1.above c.self.invariant.1.under c.self.inside.tables.readers.items c.self.invariant.1.read c.args.serial
+    ∙ readers_answer c.self.inside.doc.nodes (c.self.invariant.0).distinct (get c.self.inside.tables.places) c.self.invariant.1.indexed c.self.inside.tables.time_parents.items c.self.inside.tables.time_children.items c.self.invariant.1.above c.self.invariant.1.under c.self.inside.tables.readers.items c.self.invariant.1.read c.args.serial
     ∙ ap (λ (g : OrderedNodes). readers_of g.nodes c.args.serial) c.self.view_is

@@ -3,8 +3,11 @@ use Rattle.std.proofs.Math.Seq.{take-append_seam}
 use Rattle.smil_instances.specs.Sources.{AreThose}
 use Rattle.smil_instances.specs.Dependents.{AreDependentsOf, ElementDependents, keyed_in}
 use Rattle.smil_instances.specs.Keys.{is_for_key}
-use Rattle.smil_instances.proofs.Spreading.{all_concerned}
+use Rattle.smil_instances.proofs.Spreading.{all_concerned, fresh_sources}
 use Rattle.smil_instances.proofs.dependents.Dependents.of.Goals as goal
+
+pub fill-requires-clause-sources : goal.fill-requires-clause-sources
+fill-requires-clause-sources c = fresh_sources c.args.tree.now.nodes c.deref_mut.result.now (c.deref_mut.ensures.value ∙ c.in_ok-rows.ensures)
 
 pub returns : goal.returns
 returns c =

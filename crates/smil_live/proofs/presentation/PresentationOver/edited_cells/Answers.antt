@@ -4,6 +4,7 @@ use Rattle.smil_model.specs.document.Document.{Document}
 use Rattle.smil_model.specs.document.Valid.{IsValid}
 use Rattle.smil_model.specs.shown.Orders.{IsState, Presentation}
 use Rattle.smil_cells.specs.CellsState.{WhereTold}
+use Rattle.smil_live.specs.Counts.{least_loading}
 use Rattle.smil_live.specs.Moves.{IsReplayed, IsTooFull}
 use Rattle.smil_live.specs.Sites.{IsMade, staying}
 use Rattle.smil_live.proofs.AgreedCells.{IsEditedAt, edited_count, edited_is, edited_rebuild, edited_stands, edited_way}
@@ -55,6 +56,12 @@ returns-clause-most g c =
     subst (λ (n : ℕ). OnOk c.cells_with.result (WhereTold g.T.Table.counts (c.cells_with.new.steps - c.args.steps.now ≤ n)))
     (edited_count (edit g (goal.at.returns-clause-most g c).In_ok-len))
     c.cells_with.ensures.most
+
+pub returns-clause-least : goal.returns-clause-least
+returns-clause-least g c =
+    subst (λ (q : Presentation). OnOk c.cells_with.result (WhereTold g.T.Table.counts (least_loading q ≤ c.cells_with.new.steps - c.args.steps.now)))
+    (edited_is (edit g (goal.at.returns-clause-least g c).In_ok-len))
+    c.cells_with.ensures.least
 
 pub staying-requires-clause-made : goal.staying-requires-clause-made
 staying-requires-clause-made g c =

@@ -1,4 +1,4 @@
-use Rattle.std.proofs.Common.{rules, ◌≡◌, refl, drop, length, ◌-◌}
+use Rattle.std.proofs.Common.{rules, ◌≡◌, refl, ◌∙◌, drop, length, ◌-◌}
 use Rattle.std.proofs.lemmas.Result.{on_ok_weaker, IfErr-weaker}
 use Rattle.smil_model.specs.declared.diary.Happening.TheVariants as happening
 use Rattle.smil_model.specs.declared.order.Order.TheVariants as order
@@ -20,13 +20,13 @@ returns-in_err-serial-clause-refused g c =
     search rules
 
 pub hear-requires : goal.hear-requires
-hear-requires g c = may_event c.in_ok-serial.serial c.in_ok-name.name c.args.name.now c.in_ok-serial.ensures.serial c.in_ok-name.ensures c.requires.1
+hear-requires g c = may_event c.in_ok-serial.serial c.in_ok-name.name c.args.name.now c.in_ok-serial.ensures.serial (c.in_ok-name.ensures ∙ c.slice.ensures) c.requires.1
 
 -- the order comes to the event that is heard
 is_heard : (g : Over) (c : After-hear g) → outcome formats c.args.self.now (order.Event c.args.who.now c.args.name.now) ≡ logged_within limits c.args.self.now (happening.Event c.in_ok-serial.serial c.in_ok-name.name)
 is_heard g c =
     let h = c.in_ok-serial.ensures.ok in
-    event_is c.args.self.now c.args.who.now c.in_ok-serial.serial c.in_ok-name.name c.args.name.now h.0 h.1 h.2 c.in_ok-name.ensures
+    event_is c.args.self.now c.args.who.now c.in_ok-serial.serial c.in_ok-name.name c.args.name.now h.0 h.1 h.2 (c.in_ok-name.ensures ∙ c.slice.ensures)
 
 pub returns-clause-ok : goal.returns-clause-ok
 returns-clause-ok g c =

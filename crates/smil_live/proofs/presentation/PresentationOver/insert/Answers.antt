@@ -25,7 +25,7 @@ take_edited-requires g c = edit_made c.args.self.now (asked c.args.who.now c.arg
 answered : (g : Over) (c : After-take_edited g) → IsAnswered c.take_edited.result g.T.Table.counts c.args.self.now c.take_edited.new.self (asked c.args.who.now c.args.child) c.args.out.now c.take_edited.new.out (c.take_edited.new.steps - c.args.steps.now)
 answered g c =
     edit_answered c.take_edited.result g.T.Table.counts c.args.self.now c.take_edited.new.self (asked c.args.who.now c.args.child) c.in_ok-edited.edited site.New c.args.out.now c.take_edited.new.out (c.take_edited.new.steps - c.args.steps.now) refl
-    c.in_ok-edited.ensures.ok refl c.take_edited.ensures.ok c.take_edited.ensures.most c.take_edited.ensures.refused
+    c.in_ok-edited.ensures.ok refl c.take_edited.ensures.ok c.take_edited.ensures.most c.take_edited.ensures.least c.take_edited.ensures.refused
 
 pub returns-clause-ok : goal.returns-clause-ok
 returns-clause-ok g c = (answered g (goal.at.returns-clause-ok g c).After-take_edited).ok

@@ -4,6 +4,7 @@ use Rattle.std.proofs.lemmas.Int.{ints, to_z-of_z}
 use Rattle.smil_model.specs.document.Document.{elements}
 use Rattle.smil_model.specs.shown.Orders.{IsState, Presentation}
 use Rattle.smil_cells.specs.CellsState.{WhereTold}
+use Rattle.smil_live.specs.Counts.{least_loading}
 use Rattle.smil_live.specs.Moves.{IsReplayed, IsTooFull, sought_of}
 use Rattle.smil_live.proofs.AgreedCells.{own_replayed, sought_stands}
 use Rattle.smil_live.proofs.Outcomes.{clock_from}
@@ -47,3 +48,10 @@ returns-clause-state g c = sought_stands c.args.self.now c.args.to (subst IsStat
 pub returns-clause-most : goal.returns-clause-most
 returns-clause-most g c =
     subst (λ (q : Presentation). OnOk c.cells_at.result (WhereTold g.T.Table.counts (c.cells_at.new.steps - c.args.steps.now ≤ length (elements q.document.nodes)))) c.self.view_is c.cells_at.ensures.most
+
+pub returns-clause-least : goal.returns-clause-least
+returns-clause-least g c =
+    let there : to_z w64 (of_z w64 c.args.to) ≡ c.args.to = to_z-of_z w64 c.args.to c.ranges.to in
+    let rise = c.cells_at.new.steps - c.args.steps.now in
+    subst (λ (z : ℤ). OnOk c.cells_at.result (WhereTold g.T.Table.counts (least_loading (sought_of c.args.self.now z) ≤ rise))) there
+    (subst (λ (q : Presentation). OnOk c.cells_at.result (WhereTold g.T.Table.counts (least_loading (sought_of q (to_z w64 (of_z w64 c.args.to))) ≤ rise))) c.self.view_is c.cells_at.ensures.least)

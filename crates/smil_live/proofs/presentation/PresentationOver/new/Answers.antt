@@ -2,12 +2,16 @@ use Rattle.std.proofs.Common.{◌≡◌, ◌∙◌, sym, subst, ◌-◌, ◌≤�
 use Rattle.std.specs.Prelude.{◌⊎◌}
 use Rattle.std.proofs.lemmas.Result.{IfErr-weaker, IfOk-weaker}
 use Rattle.smil_model.specs.declared.order.Refusal.TheVariants as refusal
-use Rattle.smil_model.specs.shown.Orders.{Presentation, opened}
+use Rattle.smil_model.specs.shown.Orders.{IsState, Presentation, opened}
 use Rattle.smil_tree.proofs.Results.{on_err}
 use Rattle.smil_cells.specs.CellsState.{WhereTold}
 use Rattle.smil_live.specs.Counts.{least_loading, most_loading}
-use Rattle.smil_live.proofs.Opened.{not_opened, opens}
+use Rattle.smil_live.proofs.Opened.{first_state, not_opened, opens}
 use Rattle.smil_live.proofs.presentation.PresentationOver.new.Goals as goal
+
+pub over-requires-clause-state : goal.over-requires-clause-state
+over-requires-clause-state g c =
+    subst IsState (sym c.in_ok-cells.ensures.ok.presentation_is) (first_state c.args.doc c.requires)
 
 pub returns-clause-state : goal.returns-clause-state
 returns-clause-state g c =

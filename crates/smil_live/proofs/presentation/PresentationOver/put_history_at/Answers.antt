@@ -3,6 +3,7 @@ use Rattle.std.proofs.lemmas.Result.{on_ok_weaker}
 use Rattle.smil_model.specs.declared.document.Node.{Node as AnyNode}
 use Rattle.smil_model.specs.document.Valid.{IsNumberedTree}
 use Rattle.smil_model.specs.shown.Orders.{Presentation}
+use Rattle.smil_report.specs.Words.{who_of}
 use Rattle.smil_live.proofs.ToldAnswers.{history_answer, named_element}
 use Rattle.smil_live.proofs.presentation.PresentationOver.put_history_at.Goals as goal
 
@@ -26,5 +27,5 @@ returns-clause-told g c = λ w n q own.
     let at = named_element c.args.self.now c.self.inside.viewer.cells.presentation.document w n c.args.serial numbered (ap (λ (p : Presentation). p.document) c.self.view_is) q own in
     let named = named_element c.args.self.now c.tree.result.now w n c.args.serial numbered (c.tree.ensures ∙ ap (λ (p : Presentation). p.document) c.self.view_is) q own in
     on_ok_weaker c.put_intervals.result
-    (history_answer c.self.inside.viewer.cells c.args.self.now n c.in_ok-name.name c.args.out.now c.put_intervals.new.out c.self.view_is c.self.invariant.shown_is.settled (c.in_ok-name.ensures ∙ named.name))
+    (history_answer c.self.inside.viewer.cells c.args.self.now n (who_of c.name_of.result) c.args.out.now c.put_intervals.new.out c.self.view_is c.self.invariant.shown_is.settled (c.name_of.ensures ∙ named.name))
     (c.put_intervals.ensures.told n at.element)

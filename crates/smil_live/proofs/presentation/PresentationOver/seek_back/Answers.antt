@@ -1,4 +1,4 @@
-use Rattle.std.proofs.Common.{◌≡◌, ◌-◌, inl, refl, sym, subst, ℤ, to_z, of_z, w64, drop, length}
+use Rattle.std.proofs.Common.{◌≡◌, ◌-◌, ◌≤◌, inl, refl, sym, subst, ℤ, to_z, of_z, w64, drop, length}
 use Rattle.std.proofs.lemmas.Int.{to_z-of_z}
 use Rattle.std.proofs.lemmas.Result.{IfErr-weaker}
 use Rattle.smil_model.specs.declared.order.Order.TheVariants as order
@@ -7,9 +7,10 @@ use Rattle.smil_model.specs.shown.Answers.{Refuses, gone_text}
 use Rattle.smil_model.specs.shown.Orders.{IsState, changes_between}
 use Rattle.smil_grammar.specs.Formats.{formats}
 use Rattle.smil_tree.proofs.Results.{on_err}
+use Rattle.smil_cells.specs.CellsState.{WhereTold}
 use Rattle.smil_live.specs.Moves.{IsReplayed, IsTooFull, sought_of, text_of}
 use Rattle.smil_live.specs.Counted.{IsFree}
-use Rattle.smil_live.specs.Counts.{most_number, told_where}
+use Rattle.smil_live.specs.Counts.{least_loading, most_number, told_where}
 use Rattle.smil_live.proofs.AgreedCells.{sought_least, sought_most}
 use Rattle.smil_live.proofs.CountedOrders.{bounded_too_full, free_too_full}
 use Rattle.smil_live.proofs.EditedPresentations.{replayed_own}
@@ -60,7 +61,9 @@ returns-clause-bounded g c =
       most =
           sought_most c.take_over.result g.T.Table.counts p c.take_over.new.self c.in_ok-cells.cells c.args.to text rise c.requires.clock c.requires.back (replayed g (goal.at.returns-clause-bounded g c).After-take_over) c.take_over.ensures.state
           (returns-clause-ok g c) c.in_ok-cells.ensures.most;
-      least = sought_least c.take_over.result g.T.Table.counts p c.take_over.new.self c.args.to text rise c.requires.clock c.requires.back (returns-clause-ok g c);
+      least =
+          sought_least c.take_over.result g.T.Table.counts p c.take_over.new.self c.in_ok-cells.cells c.args.to text rise c.requires.clock c.requires.back (replayed g (goal.at.returns-clause-bounded g c).After-take_over) c.take_over.ensures.state
+          (returns-clause-ok g c) (subst (λ (z : ℤ). WhereTold g.T.Table.counts (least_loading (sought_of p z) ≤ rise)) (to_z-of_z w64 c.args.to c.ranges.to) c.in_ok-cells.ensures.least);
       free =
           IfErr-weaker c.take_over.result (λ e. e ≡ refusal.Memory) (λ e. IsFree g.T.Table.counts p (order.Seek c.args.to) e rise)
           (λ e h. free_too_full (told_where g.T.Table.counts (most_number p (order.Seek c.args.to))) (sought_of p c.args.to) e rise (inl h)) c.take_over.ensures.refused;

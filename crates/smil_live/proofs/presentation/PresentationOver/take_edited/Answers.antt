@@ -24,6 +24,9 @@ returns-clause-refused g c =
 pub returns-clause-most : goal.returns-clause-most
 returns-clause-most g c = on_ok_always c.take_over.result c.in_ok-cells.ensures.most
 
+pub returns-clause-least : goal.returns-clause-least
+returns-clause-least g c = on_ok_always c.take_over.result c.in_ok-cells.ensures.least
+
 pub returns-in_err-cells-clause-refused : goal.returns-in_err-cells-clause-refused
 returns-in_err-cells-clause-refused g c =
     on_err (IsTooFull (edited_to c.args.self.now c.args.edited)) c.from_residual.result c.in_err-cells.field-0.0 c.from_residual.ensures.1 c.in_err-cells.ensures.refused

@@ -1,15 +1,15 @@
-use Rattle.std.proofs.Common.{◌≡◌, ◌∙◌, ap, sym, subst, ℕ, ◌+◌, ◌/◌, ◌<◌, List, length, drop, set, arith}
+use Rattle.std.proofs.Common.{◌≡◌, ◌≢◌, ◌∙◌, ap, sym, subst, ℕ, ◌+◌, ◌/◌, ◌<◌, List, length, drop, set, arith}
 use Rattle.std.proofs.lemmas.List.{drop-set-add, take_at}
-use Rattle.smil_model.specs.Tournaments.{IsDecided, IsOff, IsTournament}
+use Rattle.smil_model.specs.Tournaments.{IsDecided, IsTournament}
 use Rattle.smil_model.proofs.Tournaments.{changed_slot, next_made}
 use Rattle.smil_model.proofs.tournament.Tournament.set.Goals as goal
 
-pub decide_above-requires-clause-off : goal.decide_above-requires-clause-off
-decide_above-requires-clause-off g c =
+pub decide_above-requires-clause-others : goal.decide_above-requires-clause-others
+decide_above-requires-clause-others g c =
     let none = g.T.Contender.none in
     let both = g.T.Contender.both in
     let was = c.self.inside in
-    subst (λ (places : List _). (i : ℕ) → 0 < i → i < was.half → IsOff i ((was.half + c.args.index) / 2) → IsDecided none both places i)
+    subst (λ (places : List _). (i : ℕ) → 0 < i → i < was.half → i ≢ (was.half + c.args.index) / 2 → IsDecided none both places i)
     (sym c.deref_mut.ensures.value)
     (changed_slot none both was.places.items was.half (was.half + c.args.index) c.args.item (omega arith) c.self.invariant.decided)
 

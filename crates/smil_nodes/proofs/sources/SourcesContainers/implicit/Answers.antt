@@ -1,5 +1,5 @@
 use Rattle.std.proofs.Common.{◌≡◌, ◌∙◌, ap, sym, arith, rules, SFits, w64}
-use Rattle.std.specs.Prelude.{Some, is_some, slice_get}
+use Rattle.std.specs.Prelude.{Some, slice_get}
 use Rattle.std.proofs.lemmas.Int.{to_z-of_z}
 use Rattle.std.proofs.lemmas.Option.{same_Some}
 use Rattle.smil_model.specs.document.Document.{Document, elements, node_at}
@@ -7,19 +7,14 @@ use Rattle.smil_model.specs.document.Defaults.{endsync_of}
 use Rattle.smil_model.specs.interval.Durations.{container_duration}
 use Rattle.smil_element.proofs.Known.{kind_is, known_node}
 use Rattle.smil_element.proofs.Told.{tree_attrs, tree_node}
-use Rattle.smil_rounds.proofs.Taking.{IsFound, found, has_row}
+use Rattle.smil_rounds.proofs.Taking.{IsFound, found}
 use Rattle.smil_nodes.proofs.sources.SourcesContainers.implicit.Goals as goal
-use Rattle.smil_nodes.proofs.sources.SourcesContainers.implicit.Goals.{After-unwrap-index}
-
--- the element and its row
-found_row : (c : After-unwrap-index) → IsFound c.args.container.now.past.now.document.nodes c.args.self.now.schedule.now c.args.container.now.who c.unwrap-index.result
-found_row c = found _ _ _ c.possible.ensures.valid.numbered.distinct c.requires.known.of_elements c.requires.element c.unwrap-index.result (sym c.unwrap-index.ensures ∙ c.index_of.ensures)
-
-pub unwrap-index-requires : goal.unwrap-index-requires
-unwrap-index-requires c = ap is_some c.index_of.ensures ∙ has_row _ _ _ c.possible.ensures.valid.numbered.distinct c.requires.known.of_elements c.requires.element
 
 pub implicit-requires : goal.implicit-requires
-implicit-requires c = omega (arith, c.requires.known.as_many, (found_row (goal.at.implicit-requires c).After-unwrap-index).within)
+implicit-requires c =
+    let at : IsFound c.args.container.now.past.now.document.nodes c.args.self.now.schedule.now c.args.container.now.who c.args.self.now.index =
+    found _ _ _ c.possible.ensures.valid.numbered.distinct (c.requires.known.known).of_elements c.requires.element c.args.self.now.index (sym c.requires.known.here) in
+    omega (arith, (c.requires.known.known).as_many, at.within)
 
 pub kind-kind-requires : goal.kind-kind-requires
 kind-kind-requires c = tree_node c.args.container.now.past.now.document c.tree-tree.result.now c.args.container.now.who c.tree-tree.ensures c.requires.element
@@ -32,12 +27,14 @@ returns c = λ e here.
     let document = c.args.container.now.past.now.document in
     let nodes = document.nodes in
     let distinct = c.possible.ensures.valid.numbered.distinct in
-    let at = found_row (goal.at.returns c).After-unwrap-index in
+    let index = c.args.self.now.index in
+    let at : IsFound c.args.container.now.past.now.document.nodes c.args.self.now.schedule.now c.args.container.now.who c.args.self.now.index =
+    found _ _ _ c.possible.ensures.valid.numbered.distinct (c.requires.known.known).of_elements c.requires.element c.args.self.now.index (sym c.requires.known.here) in
     let one : at.element ≡ e = same_Some _ _ (sym at.node ∙ here) in
-    let stands : slice_get (elements nodes) c.unwrap-index.result ≡ Some e = at.here ∙ ap Some one in
+    let stands : slice_get (elements nodes) index ≡ Some e = at.here ∙ ap Some one in
     let known : node_at c.tree-tree.result.now.nodes c.args.container.now.who ≡ Some e = ap (λ (d : Document). node_at d.nodes c.args.container.now.who) c.tree-tree.ensures ∙ known_node document c.possible.ensures.valid.numbered c.args.container.now.who e here in
     let kind : c.kind-kind.result ≡ e.kind = kind_is c.tree-tree.result.now.nodes c.args.container.now.who e c.kind-kind.result c.kind-kind.ensures known in
     let attrs : c.attrs-attrs.result.now ≡ e.attrs = tree_attrs document c.tree-tree.result.now c.args.container.now.who e c.attrs-attrs.result.now distinct c.tree-tree.ensures here c.attrs-attrs.ensures in
-    let ends = c.requires.known.ends_are c.unwrap-index.result e stands (ap (λ n. n.serial) (sym one) ∙ at.is_who) in
+    let ends = (c.requires.known.known).ends_are index e stands (ap (λ n. n.serial) (sym one) ∙ at.is_who) in
     let fits : SFits w64 c.args.container.now.start = search rules in
     c.implicit.ensures ∙ (λ i. container_duration (kind i) (endsync_of (attrs i)) (to_z-of_z w64 c.args.container.now.start fits i) (ends i))

@@ -1,6 +1,5 @@
 use Rattle.std.proofs.Common.{◌≡◌, ℕ, ◌<◌, ◌+◌, length, ap, sym, ◌∙◌, arith}
 use Rattle.std.specs.Prelude.{unwrap_or, Option}
-use Rattle.smil_grammar.specs.Outlines.{Outline}
 use Rattle.smil_outline.proofs.Validity.{read_is_valid}
 use Rattle.smil_outline.proofs.builder.Builder.finish.Goals as goal
 use Rattle.smil_outline.proofs.builder.Builder.finish.Goals.{in-Some, in-None}
@@ -13,5 +12,5 @@ returns-clause-valid c =
       | in-Some w ↦ w.next-is ∙ ap (λ (o : Option ℕ). unwrap_or o (length c.self.inside.nodes + 1)) (sym w.in-Some.is)
       | in-None w ↦ w.next-is ∙ grind (arith, count, c.self.invariant.few) ∙ ap (λ (o : Option ℕ). unwrap_or o (length c.self.inside.nodes + 1)) (sym w.in-None.is)
     ] in
-    read_is_valid (record { nodes = c.self.inside.nodes; branch = c.self.inside.branch; next = c.self.inside.next }) c.in_ok-copied.field-0 c.self.invariant.read some
-    (c.in_ok-copied.ensures.nodes ∙ sym (ap (λ (o : Outline). o.nodes) c.self.view_is)) (c.in_ok-copied.ensures.next ∙ next)
+    read_is_valid (record { nodes = c.self.inside.nodes; branch = c.self.inside.branch; next = c.self.inside.next }) c.in_ok-into_doc.field-0 c.self.invariant.read some
+    c.in_ok-into_doc.ensures.nodes (c.in_ok-into_doc.ensures.next ∙ next)

@@ -8,6 +8,7 @@ use Rattle.smil_model.specs.diary.Lawful.{IsLawful}
 use Rattle.smil_stretch.proofs.Diaries.{lawful_first}
 use Rattle.smil_stretch.proofs.Idle.{next_first, no_entry}
 use Rattle.smil_model.proofs.Growing.{begins_by}
+use Rattle.smil_report.specs.Words.{who_of}
 use Rattle.smil_shown.specs.Histories.{IsTold}
 use Rattle.smil_shown.proofs.ToldIntervals.{near_at}
 use Rattle.smil_shown.proofs.interval_teller.IntervalTeller.follow_all.Goals as goal
@@ -43,7 +44,7 @@ loop-entry-preserved c =
           let at : slice_get h.diary i ≡ Some entry =
           ap (λ (ds : List Entry). slice_get ds i) (same ∙ sym c.entries-entry-items.ensures) ∙ slice_get-get_or entries i no_entry c.loop-entry-test.true in
           let next = next_first h i entry at in
-          let P : History → Type 0 = λ k. IsTold k c.args.name.now start c.follow.new.self c.follow.new.out in
+          let P : History → Type 0 = λ k. IsTold k (who_of c.args.name) start c.follow.new.self c.follow.new.out in
           subst P next
           (c.in_ok-follow.ensures.told (up_to h (take i h.diary)) start (c.loop-entry.invariant.told h start same lawful nothing) (subst IsLawful (sym next) (lawful_first h (i + 1) lawful)));
       who = c.follow.ensures.who ∙ c.loop-entry.invariant.who;
@@ -52,6 +53,6 @@ loop-entry-preserved c =
 
 pub returns-clause-told : goal.returns-clause-told
 returns-clause-told c = λ h start same lawful nothing.
-    let P : List Entry → Type 0 = λ ds. IsTold (up_to h ds) c.args.name.now start c.loop-entry.self c.loop-entry.out in
+    let P : List Entry → Type 0 = λ ds. IsTold (up_to h ds) (who_of c.args.name) start c.loop-entry.self c.loop-entry.out in
     subst P (take_all c.loop-entry.entry-index h.diary (omega (arith, c.loop-entry-test.false, ap length c.entries-entry-items.ensures, ap length same)))
     (c.loop-entry.invariant.told h start same lawful nothing)

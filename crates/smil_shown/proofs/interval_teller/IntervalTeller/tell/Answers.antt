@@ -10,6 +10,7 @@ use Rattle.smil_model.specs.diary.Lawful.{IsLawful}
 use Rattle.smil_model.specs.Times.{IsMoment}
 use Rattle.smil_stretch.proofs.Turning.{entry_moment}
 use Rattle.smil_instances.proofs.Sums.{moment_fits}
+use Rattle.smil_report.specs.Words.{who_of}
 use Rattle.smil_shown.specs.Histories.{finish_line}
 use Rattle.smil_shown.proofs.ToldIntervals.{began_shown, ended_text, read_shown}
 use Rattle.smil_shown.proofs.interval_teller.IntervalTeller.tell.Goals as goal
@@ -39,7 +40,7 @@ returns-in-Ended-clause-text c = λ h known lawful was.
     let fits : SFits w64 c.in-Ended.end = search rules in
     let result : SFits w64 c.to_document-end.result = search rules in
     let shown = read_shown h c.args.entry c.args.self.now.clocks c.args.self.now.who c.in-Ended.who c.in-Ended.end _ _ c.to_document-end.result (kept h c.args.entry lawful) (to_z-of_z w64 c.in-Ended.end fits) c.if-who-self-2.true c.to_document-end.ensures known lawful in
-    let text = ended_text h c.args.entry c.args.self.now.who c.in-Ended.who c.args.name.now c.in-Ended.end _ c.in-Ended.is c.if-who-self-2.true (to_z-of_z w64 c.to_document-end.result result ∙ shown) in
+    let text = ended_text h c.args.entry c.args.self.now.who c.in-Ended.who (who_of c.args.name) c.in-Ended.end _ c.in-Ended.is c.if-who-self-2.true (to_z-of_z w64 c.to_document-end.result result ∙ shown) in
     on_ok_weaker c.finish.result
-    (λ told. told ∙ ap (λ (b : Option ℤ). c.args.out.now ++ finish_line c.args.name.now b (to_z w64 (of_z w64 c.to_document-end.result)) how.Ended) was ∙ ap (λ t. c.args.out.now ++ t) text)
+    (λ told. told ∙ ap (λ (b : Option ℤ). c.args.out.now ++ finish_line (who_of c.args.name) b (to_z w64 (of_z w64 c.to_document-end.result)) how.Ended) was ∙ ap (λ t. c.args.out.now ++ t) text)
     c.finish.ensures.ok

@@ -1,12 +1,11 @@
 use Rattle.std.proofs.Common.{◌≡◌, length}
-use Rattle.std.specs.Prelude.{nat_eq}
-use Rattle.std.specs.HashMap.{get}
+use Rattle.std.specs.FinMap.{get}
 use Rattle.smil_shown.specs.ViewTable.{AreAt, put_back}
 use Rattle.smil_shown.proofs.view_table.ViewTable.back.Given as goal
 
 abbrev pub invariant-loop-view : goal.invariant-loop-view
 invariant-loop-view l = record {
-  at : AreAt (get nat_eq l.self-inside.places) l.self-inside.rows.items;
+  at : AreAt (get l.self-inside.places) l.self-inside.rows.items;
   back : put_back l.self-inside.rows.items l.self-inside.noted.items ≡ l.fn.self.before;
 }
 

@@ -8,8 +8,8 @@ use Rattle.smil_top.specs.Auditing.{IsSound, ReadsAs, audit_input}
 use Rattle.smil_top.specs.Running.{IsLine}
 use Rattle.smil_top.proofs.Auditing.{end-number, more_read}
 use Rattle.smil_top.proofs.Cuts.{count-cut_of}
-use Rattle.smil_top.proofs.Serving.{Nexts, Nexts-of, Hands, next-line, next-end, next-too_long, next-fault, fault-open, HasRead, HasRead-fresh}
-use Rattle.smil_top.proofs.Writing.{risen-from}
+use Rattle.smil_top.proofs.Serving.{Nexts, Nexts-of, Hands, hands-no_fault, next-line, next-end, next-too_long, next-fault, fault-open, HasRead, HasRead-fresh}
+use Rattle.smil_outside.specs.Faults.{HasRisen}
 use Rattle.smil_top.proofs.audit.AuditOpening.read_all.Given.{Over}
 use Rattle.smil_top.proofs.audit.AuditOpening.read_all.Goals as goal
 use Rattle.smil_top.proofs.audit.AuditOpening.read_all.Goals.{After-next, in-Bytes, in-LongLine}
@@ -28,7 +28,7 @@ lines-init g c =
       read = record { came = []; answered = []; has = subst (λ r. HasRead r rest rest [] []) (sym c.requires.fresh) (HasRead-fresh rest) };
       said = inr (ap so_far (sym c.requires.unread));
       sound = subst IsSound (sym c.requires.unread) tt;
-      reads = omega arith;
+      reads = refl;
       sure = λ never. never;
     }
 
@@ -70,7 +70,7 @@ returns-in-ReadFault-clause-stopped g c =
 pub returns-in-ReadFault-clause-read_cause : goal.returns-in-ReadFault-clause-read_cause
 returns-in-ReadFault-clause-read_cause g c = λ same.
     let faults = g.S.Source.faults in
-    risen-from (faults c.args.source.now) (faults c.lines.source) (faults c.next.new.source) c.lines.invariant.reads (c.next.ensures.cause c.in-ReadFault.is (open-yet g (goal.at.returns-in-ReadFault-clause-read_cause g c).After-next c.in-ReadFault.is))
+    subst (λ (n : ℕ). HasRisen n (faults c.next.new.source)) c.lines.invariant.reads (c.next.ensures.cause c.in-ReadFault.is (open-yet g (goal.at.returns-in-ReadFault-clause-read_cause g c).After-next c.in-ReadFault.is))
 
 pub returns-in-ReadFault-clause-sure : goal.returns-in-ReadFault-clause-sure
 returns-in-ReadFault-clause-sure g c = λ never same. (c.next.ensures.sure (c.lines.invariant.sure never)).1 (open-yet g (goal.at.returns-in-ReadFault-clause-sure g c).After-next c.in-ReadFault.is) c.in-ReadFault.is
@@ -88,6 +88,6 @@ lines-preserved g c =
       read = record { came = n.0; answered = held.read.answered ++ n.1 ∷ []; has = n.2 };
       said = subst (λ (r : Result AuditInput Fault). ReadsAs c.with_line-said.result r) (sym (more_read held.read.answered n.1 c.number.result number)) (c.with_line-said.ensures.read n.1 (audit_input held.read.answered) n.3 held.said);
       sound = c.with_line-said.ensures.sound;
-      reads = omega (arith, held.reads, c.next.ensures.count);
+      reads = c.next.ensures.kept (hands-no_fault c.next.new.self c.next.result (shown c.match-next.text) hands) ∙ held.reads;
       sure = λ never. (c.next.ensures.sure (held.sure never)).0;
     }

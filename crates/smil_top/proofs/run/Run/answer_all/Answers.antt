@@ -1,4 +1,4 @@
-use Rattle.std.proofs.Common.{◌≡◌, ℕ, suc, ◌-◌, List, [], ◌∷◌, ◌++◌, Option, Some, Bor, Bool, false, refl, ap, sym, subst, ◌∙◌, arith, inl, inr}
+use Rattle.std.proofs.Common.{◌≡◌, ◌≢◌, ℕ, suc, ◌-◌, List, [], ◌∷◌, ◌++◌, Option, Some, Bor, Bool, false, refl, ap, sym, subst, ◌∙◌, arith, inl, inr}
 use Rattle.std.specs.Prelude.{IsNone, option_map}
 use Rattle.smil_outside.specs.declared.line.Line.{Line}
 use Rattle.smil_outside.specs.declared.line.Line.TheVariants.{End, InputTooLong, ReadFault}
@@ -6,9 +6,10 @@ use Rattle.smil_top.specs.Cut.{cut_of, with_line}
 use Rattle.smil_top.specs.Transcript.{TranscriptState, untold}
 use Rattle.smil_top.specs.Running.{Answers, IsLine, IsRunning}
 use Rattle.smil_top.proofs.Evaluated.{evaluated-fresh, evaluated-next}
-use Rattle.smil_top.proofs.Serving.{Nexts, Nexts-of, Hands, next-line, fault-open, HasRead, HasRead-fresh, IsServing, IsServing-of, Wrote-fresh, Wrote-next, RanCounted-end, RanCounted-untold, Ran-too_long, Ran-fault, Ran-unwritten}
+use Rattle.smil_top.proofs.Serving.{Nexts, Nexts-of, Hands, hands-no_fault, next-line, fault-open, HasRead, HasRead-fresh, IsServing, IsServing-of, Wrote-fresh, Wrote-next, RanCounted-end, RanCounted-untold, Ran-too_long, Ran-fault, Ran-unwritten}
 use Rattle.smil_live.proofs.EditedPresentations.{where_err}
-use Rattle.smil_top.proofs.Writing.{risen-from}
+use Rattle.smil_outside.specs.Faults.{HasRisen}
+use Rattle.smil_top.proofs.Writing.{where_ok}
 use Rattle.smil_top.proofs.run.Run.answer_all.Given.{Over}
 use Rattle.smil_top.proofs.run.Run.answer_all.Goals as goal
 use Rattle.smil_top.proofs.run.Run.answer_all.Goals.{After-line, After-next}
@@ -26,8 +27,8 @@ lines-init g c =
     record {
       read = record { came = []; answered = []; has = subst (λ r. HasRead r rest rest [] []) (sym c.requires.fresh) (HasRead-fresh rest) };
       wrote = λ checks begun. Wrote-fresh checks c.args.self.now taken room begun;
-      reads = omega arith;
-      writes = omega arith;
+      reads = refl;
+      writes = refl;
       sure = λ never. never;
       steps = omega arith;
       evaluated = λ begun. evaluated-fresh c.args.self.now.counts c.args.steps.now;
@@ -79,7 +80,7 @@ returns-in-ReadFault-clause-evaluated g c checks begun = RanCounted-untold refl 
 pub returns-in-ReadFault-clause-read_cause : goal.returns-in-ReadFault-clause-read_cause
 returns-in-ReadFault-clause-read_cause g c = λ same.
     let faults = g.S.Source.faults in
-    risen-from (faults c.args.source.now) (faults c.lines.source) (faults c.next.new.source) c.lines.invariant.reads (c.next.ensures.cause c.in-ReadFault.is (open-yet g (goal.at.returns-in-ReadFault-clause-read_cause g c).After-next c.in-ReadFault.is))
+    subst (λ (n : ℕ). HasRisen n (faults c.next.new.source)) c.lines.invariant.reads (c.next.ensures.cause c.in-ReadFault.is (open-yet g (goal.at.returns-in-ReadFault-clause-read_cause g c).After-next c.in-ReadFault.is))
 
 pub returns-in-ReadFault-clause-sure : goal.returns-in-ReadFault-clause-sure
 returns-in-ReadFault-clause-sure g c = λ never same. (c.next.ensures.sure (c.lines.invariant.sure never)).1 (open-yet g (goal.at.returns-in-ReadFault-clause-sure g c).After-next c.in-ReadFault.is) c.in-ReadFault.is
@@ -91,6 +92,10 @@ module _ (g : Over) (c : After-line g) (next : Nexts c.lines.reader c.next.new.s
     | in-Bytes w ↦ inl (w.in-Bytes.is, ap shown w.text-is ∙ ap Some w.bytes.ensures)
     | in-LongLine w ↦ inr (w.in-LongLine.is, ap shown w.text-is)
   ]
+
+  -- no read failed
+  unfailed : c.next.result ≢ ReadFault
+  unfailed = hands-no_fault c.next.new.self c.next.result (shown c.match-next.text) hands
 
   -- the line that was read
   line : (came : List ℕ) × (line : List ℕ) × HasRead c.next.new.self (g.S.Source.rest c.args.source.now) (g.S.Source.rest c.next.new.source) came (c.lines.invariant.read.answered ++ line ∷ [])
@@ -112,6 +117,11 @@ returns-then-is_err-clause-ran g c checks begun =
 pub returns-then-is_err-clause-evaluated : goal.returns-then-is_err-clause-evaluated
 returns-then-is_err-clause-evaluated g c checks begun = RanCounted-untold refl (returns-then-is_err-clause-ran g c checks begun)
 
+pub returns-then-is_err-clause-read_kept : goal.returns-then-is_err-clause-read_kept
+returns-then-is_err-clause-read_kept g c = λ not.
+    let at = goal.at.returns-then-is_err-clause-read_kept g c in
+    c.next.ensures.kept (unfailed g at.After-line (nexts g at.After-next c.next.result refl)) ∙ c.lines.invariant.reads
+
 pub lines-preserved : goal.lines-preserved
 lines-preserved g c =
     let read = c.lines.invariant.read in
@@ -124,8 +134,8 @@ lines-preserved g c =
       wrote = λ checks begun.
           let w = c.lines.invariant.wrote checks begun in
           Wrote-next (g.K.Sink.taken c.args.sink.now) read.answered n.1 n.2 w.1.written c.line.result (sym c.is_err.ensures.value ∙ c.if-is_err.false) (answers g at.After-line next checks w.0 w.1.running);
-      reads = omega (arith, c.lines.invariant.reads, e.count);
-      writes = omega (arith, c.lines.invariant.writes, c.line.ensures.count);
+      reads = e.kept (unfailed g at.After-line next) ∙ c.lines.invariant.reads;
+      writes = where_ok c.line.result _ (sym c.is_err.ensures.value ∙ c.if-is_err.false) c.line.ensures.kept ∙ c.lines.invariant.writes;
       sure = λ never. (e.sure (c.lines.invariant.sure never)).0;
       steps = omega (arith, c.lines.invariant.steps, c.line.ensures.counted);
       evaluated = λ begun.
@@ -143,4 +153,4 @@ pub returns-then-is_err-clause-write_cause : goal.returns-then-is_err-clause-wri
 returns-then-is_err-clause-write_cause g c = λ same.
     let faults = g.K.Sink.faults in
     let failed = sym c.is_err.ensures.value ∙ c.if-is_err.true in
-    risen-from (faults c.args.sink.now) (faults c.lines.sink) (faults c.line.new.sink) c.lines.invariant.writes (where_err c.line.result _ failed c.line.ensures.cause)
+    subst (λ (n : ℕ). HasRisen n (faults c.line.new.sink)) c.lines.invariant.writes (where_err c.line.result _ failed c.line.ensures.cause)

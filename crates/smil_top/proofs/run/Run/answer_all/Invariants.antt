@@ -1,4 +1,4 @@
-use Rattle.std.proofs.Common.{◌-◌, ◌≤◌, Bool, false, []}
+use Rattle.std.proofs.Common.{◌≡◌, ◌-◌, ◌≤◌, Bool, false, []}
 use Rattle.smil_outside.specs.declared.line.TheConstants.{INPUT_BYTES}
 use Rattle.smil_top.specs.Cut.{cut_of}
 use Rattle.smil_top.specs.Transcript.{untold}
@@ -6,13 +6,13 @@ use Rattle.smil_top.specs.Running.{HasEvaluated, IsRunning}
 use Rattle.smil_top.proofs.Serving.{IsReading, Wrote}
 use Rattle.smil_top.proofs.run.Run.answer_all.Given as goal
 
--- the lines so far are read and answered; counts of faults and of evaluations only rise
+-- the lines so far are read and answered, without a fault; the count of evaluations only rises
 abbrev pub invariant-lines : goal.invariant-lines
 invariant-lines g l = record {
   read : IsReading l.reader (g.S.Source.rest l.fn.source) (g.S.Source.rest l.source);
   wrote : (checks : Bool) → IsRunning checks l.fn.self (cut_of []) untold → Wrote checks l.self (g.K.Sink.taken l.fn.sink) (g.K.Sink.taken l.sink) (g.K.Sink.sure_room l.fn.sink) (g.K.Sink.sure_room l.sink) read.answered;
-  reads : g.S.Source.faults l.fn.source ≤ g.S.Source.faults l.source;
-  writes : g.K.Sink.faults l.fn.sink ≤ g.K.Sink.faults l.sink;
+  reads : g.S.Source.faults l.source ≡ g.S.Source.faults l.fn.source;
+  writes : g.K.Sink.faults l.sink ≡ g.K.Sink.faults l.fn.sink;
   sure : g.S.Source.never_fails l.fn.source → g.S.Source.never_fails l.source;
   steps : l.fn.steps ≤ l.steps;
   evaluated : IsRunning false l.fn.self (cut_of []) untold → HasEvaluated l.self.counts (cut_of read.answered).whole l.fn.steps l.steps;

@@ -27,7 +27,7 @@ returns-clause-answers g c checks whole told tells =
     let order : OrderLines = single (record { number = c.args.number; text = c.args.text.now }) in
     told-order between order c.at.result text tells
     (subst (λ a. MakesAnswer a text between told.session (answering checks) order) (sym c.at.ensures) (made g (goal.at.returns-clause-answers g c).After-answer_line-answered checks whole told tells))
-    c.tell.ensures.session c.answer_line-answered.ensures.checks c.tell.ensures.counts c.tell.ensures.writes
+    c.tell.ensures.session c.answer_line-answered.ensures.checks c.tell.ensures.counts c.tell.ensures.writes c.tell.ensures.answer
 
 pub returns-clause-evaluated : goal.returns-clause-evaluated
 returns-clause-evaluated g c whole told tells =

@@ -23,7 +23,7 @@ returns-clause-answers g c checks whole lines told read tells =
     let between = c.answer_load-answered.new.self in
     let e = c.answer_load-answered.ensures in
     told-order between.session (load lines (Some c.args.number)) answered between.answer tells (made g (goal.at.returns-clause-answers g c).After-answer_load-answered checks whole lines told read tells)
-    c.tell.ensures.session e.checks (c.tell.ensures.counts ∙ ap (λ (k : Counts). counted_as answered between.answer k) e.counts) c.tell.ensures.writes
+    c.tell.ensures.session e.checks (c.tell.ensures.counts ∙ ap (λ (k : Counts). counted_as answered between.answer k) e.counts) c.tell.ensures.writes c.tell.ensures.answer
 
 pub returns-clause-evaluated : goal.returns-clause-evaluated
 returns-clause-evaluated g c whole lines told read tells =

@@ -4,7 +4,7 @@ use Rattle.smil_grammar.specs.Scripts.{is_blank}
 use Rattle.smil_script.specs.Loads.{ends_load}
 use Rattle.smil_top.specs.declared.run.Run.{Run}
 use Rattle.smil_top.specs.Cut.{NumberedLine, LoadLines, load, with_line}
-use Rattle.smil_top.proofs.CutLines.{cut-ends, cut-long_node, cut-node}
+use Rattle.smil_top.proofs.CutLines.{cut-blank_node, cut-ends, cut-long_node, cut-node}
 use Rattle.smil_top.proofs.Evaluated.{evaluated-cut}
 use Rattle.smil_top.proofs.Tells.{Shows, shown-line, running-order, running-load, tells-on}
 use Rattle.smil_top.proofs.run.Run.line_inside.Goals as goal
@@ -16,6 +16,16 @@ returns-in-Some-clause-answers g c checks cut lines told line within read tells 
     let is = shown-line c.in-Some.is shows in
     let ended : ends_load line ≡ true = ap ends_load is.0 ∙ sym c.ends_load.ensures ∙ c.if-ends_load.true in
     running-order (cut-ends cut count line number lines within is.1 ended) (c.end_load.ensures.load ∙ c.requires.outside) (c.end_load.ensures.answers checks cut.whole lines told read tells)
+
+pub returns-in-Some-2-clause-answers : goal.returns-in-Some-2-clause-answers
+returns-in-Some-2-clause-answers g c checks cut lines told line within read tells number shows =
+    let run : Run = c.args.self.now in
+    let count : ℕ = c.args.next.now.number in
+    let is = shown-line c.in-Some.is shows in
+    let ended : ends_load line ≡ false = ap ends_load is.0 ∙ sym c.ends_load.ensures ∙ c.if-ends_load.false in
+    let blank : is_blank line ≡ true = ap is_blank (shown-line c.in-Some-2.is shows).0 ∙ sym c.is_blank.ensures ∙ c.if-is_blank.true in
+    let new : Run = record run { load = Some c.args.load } in
+    running-load (cut-blank_node cut count line number lines within is.1 ended blank) refl read (tells-on checks run new cut.whole told refl refl tells) c.requires.empty (Appends-nil (g.K.Sink.taken c.args.sink.now), omega arith)
 
 pub returns-in_default-clause-answers : goal.returns-in_default-clause-answers
 returns-in_default-clause-answers g c checks cut lines told line within read tells number shows =
@@ -33,7 +43,7 @@ returns-in_default-clause-answers g c checks cut lines told line within read tel
       | in_default-via-in_default w ↦
           cut-long_node cut count line number lines within (subst (λ o. Shows o line) w.in_default.is shows)
     ] in
-    running-load read_on refl (c.push.ensures told.session.wanted lines line read shows) (tells-on checks run new cut.whole told refl refl tells) (Appends-nil (g.K.Sink.taken c.args.sink.now), omega arith)
+    running-load read_on refl (c.push.ensures told.session.wanted lines line read shows) (tells-on checks run new cut.whole told refl refl tells) c.requires.empty (Appends-nil (g.K.Sink.taken c.args.sink.now), omega arith)
 
 pub returns-in-Some-clause-evaluated : goal.returns-in-Some-clause-evaluated
 returns-in-Some-clause-evaluated g c cut lines told line within read tells number shows =

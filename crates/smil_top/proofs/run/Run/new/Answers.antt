@@ -7,8 +7,8 @@ use Rattle.smil_top.specs.Houses.{Keeps}
 use Rattle.smil_top.specs.Running.{AreCounted}
 use Rattle.smil_top.proofs.run.Run.new.Goals as goal
 
-pub returns : goal.returns
-returns c = record {
+pub returns-clause-running : goal.returns-clause-running
+returns-clause-running c = record {
   tells = record {
     checks_is = ap (λ (s : Session). s.checks) c.in_ok-new.ensures;
     transcript = of_nothing;

@@ -1,18 +1,21 @@
+use Rattle.std.proofs.Common.{sym, ap, ◌∙◌}
+use Rattle.std.specs.Prelude.{is_some}
 use Rattle.smil_model.specs.document.Edits.{with_attr}
-use Rattle.smil_tree.proofs.Holding.{changed-held, key-known, node-known}
+use Rattle.smil_tree.proofs.Holding.{changed-held, node-at, place-known, some_lent}
 use Rattle.smil_tree.proofs.nodes.Nodes.set.Goals as goal
 
-pub unwrap-key-requires : goal.unwrap-key-requires
-unwrap-key-requires c = key-known c.self.inside.slab c.args.serial c.self.inside.order.entries _ c.key_of.result c.self.invariant c.self.view_is c.key_of.ensures.key c.requires
+pub unwrap-place-requires : goal.unwrap-place-requires
+unwrap-place-requires c =
+    ap is_some c.get.ensures ∙ place-known c.self.inside.slab c.self.inside.spots.items c.self.inside.places c.args.self.now c.self.invariant.0 c.self.invariant.1 c.self.view_is c.args.serial c.requires
 
 pub unwrap-node-requires : goal.unwrap-node-requires
 unwrap-node-requires c =
-    node-known c.self.inside.slab c.args.serial c.self.inside.order.entries _ c.key_of.result c.self.invariant c.self.view_is c.key_of.ensures.key c.unwrap-key.result c.get_mut.result c.unwrap-key.ensures c.get_mut.ensures.value c.requires
+    some_lent c.get_mut.result
+    (ap is_some (c.get_mut.ensures.value ∙ node-at c.self.inside.slab c.self.inside.spots.items c.self.inside.places c.args.self.now c.self.invariant.0 c.self.invariant.1 c.self.view_is c.args.serial c.unwrap-place.result c.index.result.now (sym c.get.ensures ∙ c.unwrap-place.ensures) c.index.ensures)
+    ∙ c.requires)
 
 pub invariant_of-self : goal.invariant_of-self
-invariant_of-self c =
-    (changed-held c.self.inside.slab c.args.serial c.self.inside.order.entries _ c.key_of.result c.self.invariant c.self.view_is c.key_of.ensures.key (λ attrs. with_attr attrs c.args.attr) c.unwrap-key.result c.get_mut.result c.unwrap-node.result c.with_attr.new.attrs c.unwrap-key.ensures c.get_mut.ensures.value c.unwrap-node.ensures c.with_attr.ensures c.key_of.ensures.unique).0
+invariant_of-self c = ((changed-held c.self.inside.slab c.self.inside.spots.items c.self.inside.places c.args.self.now c.self.invariant.0 c.self.invariant.1 c.self.view_is c.args.serial c.unwrap-place.result c.index.result.now (sym c.get.ensures ∙ c.unwrap-place.ensures) c.index.ensures (λ attrs. with_attr attrs c.args.attr) c.get_mut.result c.unwrap-node.result c.with_attr.new.attrs c.get_mut.ensures.value c.unwrap-node.ensures c.with_attr.ensures).0, c.self.invariant.1)
 
 pub returns : goal.returns
-returns c =
-    (changed-held c.self.inside.slab c.args.serial c.self.inside.order.entries _ c.key_of.result c.self.invariant c.self.view_is c.key_of.ensures.key (λ attrs. with_attr attrs c.args.attr) c.unwrap-key.result c.get_mut.result c.unwrap-node.result c.with_attr.new.attrs c.unwrap-key.ensures c.get_mut.ensures.value c.unwrap-node.ensures c.with_attr.ensures c.key_of.ensures.unique).1
+returns c = (changed-held c.self.inside.slab c.self.inside.spots.items c.self.inside.places c.args.self.now c.self.invariant.0 c.self.invariant.1 c.self.view_is c.args.serial c.unwrap-place.result c.index.result.now (sym c.get.ensures ∙ c.unwrap-place.ensures) c.index.ensures (λ attrs. with_attr attrs c.args.attr) c.get_mut.result c.unwrap-node.result c.with_attr.new.attrs c.get_mut.ensures.value c.unwrap-node.ensures c.with_attr.ensures).1

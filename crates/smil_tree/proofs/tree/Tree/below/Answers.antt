@@ -6,12 +6,12 @@ use Rattle.smil_tree.proofs.tree.Tree.below.Goals as goal
 
 pub overflow_add-start : goal.overflow_add-start
 overflow_add-start c =
-    let fits = span_fits c.self.inside.nodes c.self.inside.next c.self.invariant.valid.numbered _ c.args.serial c.span-start.result c.self.view_is c.requires c.span-start.ensures.places in
-    omega (arith, fits.0, fits.1, c.self.invariant.valid.nodes)
+    let fits = span_fits c.self.inside.nodes c.self.inside.next c.self.invariant.keeps.valid.numbered _ c.args.serial c.span-start.result c.self.view_is c.requires c.span-start.ensures.places in
+    omega (arith, fits.0, fits.1, c.self.invariant.keeps.valid.nodes)
 
 pub between-requires : goal.between-requires
 between-requires c =
-    let fits = span_fits c.self.inside.nodes c.self.inside.next c.self.invariant.valid.numbered _ c.args.serial c.span-start.result c.self.view_is c.requires c.span-start.ensures.places in
+    let fits = span_fits c.self.inside.nodes c.self.inside.next c.self.invariant.keeps.valid.numbered _ c.args.serial c.span-start.result c.self.view_is c.requires c.span-start.ensures.places in
     record { in_order = omega (arith, fits.0); within = fits.1 }
 
 pub returns : goal.returns

@@ -13,27 +13,27 @@ use Rattle.smil_tree.proofs.tree.Tree.cut_out.Goals.{After-end_of-end}
 
 inside : (c : After-end_of-end) → c.end_of-end.result ≤ length c.self.inside.nodes
 inside c =
-    let within = end_within c.self.inside.nodes c.self.inside.next c.self.invariant.valid.numbered c.args.serial (ap (λ d. is_some (node_at d.nodes c.args.serial)) c.self.view_is ∙ c.requires.known) in
+    let within = end_within c.self.inside.nodes c.self.inside.next c.self.invariant.keeps.valid.numbered c.args.serial (ap (λ d. is_some (node_at d.nodes c.args.serial)) c.self.view_is ∙ c.requires.known) in
     omega (arith, within.1, c.end_of-end.ensures)
 
 pub unwrap-start-requires : goal.unwrap-start-requires
 unwrap-start-requires c =
-    ap is_some c.position.ensures ∙ has_place c.self.inside.nodes c.self.inside.next c.self.invariant.valid.numbered c.args.serial (ap (λ d. is_some (node_at d.nodes c.args.serial)) c.self.view_is ∙ c.requires.known)
+    ap is_some c.position.ensures ∙ has_place c.self.inside.nodes c.self.inside.next c.self.invariant.keeps.valid.numbered c.args.serial (ap (λ d. is_some (node_at d.nodes c.args.serial)) c.self.view_is ∙ c.requires.known)
 
 pub element_from-time_parent-requires : goal.element_from-time_parent-requires
-element_from-time_parent-requires c = ordered _ c.self.invariant.valid.numbered
+element_from-time_parent-requires c = ordered _ c.self.invariant.keeps.valid.numbered
 
 pub forget_nodes-requires-clause-within : goal.forget_nodes-requires-clause-within
 forget_nodes-requires-clause-within c = inside (goal.at.forget_nodes-requires-clause-within c).After-end_of-end
 
 pub forget_nodes-requires-clause-once : goal.forget_nodes-requires-clause-once
-forget_nodes-requires-clause-once c = once_of _ c.self.invariant.valid
+forget_nodes-requires-clause-once c = once_of _ c.self.invariant.keeps.valid
 
 pub references_between-requires-clause-within : goal.references_between-requires-clause-within
 references_between-requires-clause-within c = inside (goal.at.references_between-requires-clause-within c).After-end_of-end
 
 pub shrink-requires-clause-ordered : goal.shrink-requires-clause-ordered
-shrink-requires-clause-ordered c = ordered _ c.self.invariant.valid.numbered
+shrink-requires-clause-ordered c = ordered _ c.self.invariant.keeps.valid.numbered
 
 pub shrink-requires-clause-within : goal.shrink-requires-clause-within
 shrink-requires-clause-within c = inside (goal.at.shrink-requires-clause-within c).After-end_of-end
@@ -41,26 +41,36 @@ shrink-requires-clause-within c = inside (goal.at.shrink-requires-clause-within 
 pub shrink-requires-clause-subtree : goal.shrink-requires-clause-subtree
 shrink-requires-clause-subtree c =
     let at : node_at c.self.inside.nodes c.args.serial ≡ Some c.unwrap.result.now = sym c.get.ensures ∙ ap option_copied c.unwrap.ensures in
-    let start = place_told c.self.inside.nodes c.self.inside.next c.self.invariant.valid.numbered c.args.serial c.unwrap-start.result (ap is_some at) (sym c.unwrap-start.ensures ∙ c.position.ensures) in (
+    let start = place_told c.self.inside.nodes c.self.inside.next c.self.invariant.keeps.valid.numbered c.args.serial c.unwrap-start.result (ap is_some at) (sym c.unwrap-start.ensures ∙ c.position.ensures) in (
       c.unwrap.result.now,
-      subtree c.self.inside.nodes c.self.inside.next c.self.invariant.valid c.args.serial c.unwrap.result.now at c.unwrap-start.result c.end_of-end.result start c.end_of-end.ensures,
-      time_parent_told c.self.inside.nodes c.self.inside.next c.self.invariant.valid c.args.serial c.unwrap.result.now at c.element_from-time_parent.result c.element_from-time_parent.ensures,
+      subtree c.self.inside.nodes c.self.inside.next c.self.invariant.keeps.valid c.args.serial c.unwrap.result.now at c.unwrap-start.result c.end_of-end.result start c.end_of-end.ensures,
+      time_parent_told c.self.inside.nodes c.self.inside.next c.self.invariant.keeps.valid c.args.serial c.unwrap.result.now at c.element_from-time_parent.result c.element_from-time_parent.ensures,
     )
 
 pub remove-requires-clause-within : goal.remove-requires-clause-within
 remove-requires-clause-within c = inside (goal.at.remove-requires-clause-within c).After-end_of-end
 
+pub refresh-requires-clause-valid : goal.refresh-requires-clause-valid
+refresh-requires-clause-valid c =
+    let at : node_at c.self.inside.nodes c.args.serial ≡ Some c.unwrap.result.now = sym c.get.ensures ∙ ap option_copied c.unwrap.ensures in
+    let start = place_told c.self.inside.nodes c.self.inside.next c.self.invariant.keeps.valid.numbered c.args.serial c.unwrap-start.result (ap is_some at) (sym c.unwrap-start.ensures ∙ c.position.ensures) in
+    let parented : c.unwrap.result.now.parent == 0 ≡ false = sym (ap is_root at) ∙ ap (λ d. is_root (node_at d.nodes c.args.serial)) c.self.view_is ∙ c.requires.parented in
+    let kept = keeps_removed c.self.inside.nodes c.remove.new.self c.self.inside.next c.args.serial c.unwrap-start.result c.end_of-end.result c.unwrap.result.now c.self.inside.ids c.forget_nodes.new.ids c.self.inside.references c.references_between.result c.self.inside.kin c.shrink.new.self
+    c.self.invariant.keeps at parented start c.end_of-end.ensures c.remove.ensures c.forget_nodes.ensures c.shrink.ensures c.references_between.ensures in
+    (c.self.inside.next, kept.valid)
+
 pub invariant_of-self : goal.invariant_of-self
 invariant_of-self c =
     let at : node_at c.self.inside.nodes c.args.serial ≡ Some c.unwrap.result.now = sym c.get.ensures ∙ ap option_copied c.unwrap.ensures in
-    let start = place_told c.self.inside.nodes c.self.inside.next c.self.invariant.valid.numbered c.args.serial c.unwrap-start.result (ap is_some at) (sym c.unwrap-start.ensures ∙ c.position.ensures) in
+    let start = place_told c.self.inside.nodes c.self.inside.next c.self.invariant.keeps.valid.numbered c.args.serial c.unwrap-start.result (ap is_some at) (sym c.unwrap-start.ensures ∙ c.position.ensures) in
     let parented : c.unwrap.result.now.parent == 0 ≡ false = sym (ap is_root at) ∙ ap (λ d. is_root (node_at d.nodes c.args.serial)) c.self.view_is ∙ c.requires.parented in
-    keeps_removed c.self.inside.nodes c.remove.new.self c.self.inside.next c.args.serial c.unwrap-start.result c.end_of-end.result c.unwrap.result.now c.self.inside.ids c.forget_nodes.new.ids c.self.inside.references c.references_between.result c.self.inside.kin c.shrink.new.self
-    c.self.invariant at parented start c.end_of-end.ensures c.remove.ensures c.forget_nodes.ensures c.shrink.ensures c.references_between.ensures
+    let kept = keeps_removed c.self.inside.nodes c.remove.new.self c.self.inside.next c.args.serial c.unwrap-start.result c.end_of-end.result c.unwrap.result.now c.self.inside.ids c.forget_nodes.new.ids c.self.inside.references c.references_between.result c.self.inside.kin c.shrink.new.self
+    c.self.invariant.keeps at parented start c.end_of-end.ensures c.remove.ensures c.forget_nodes.ensures c.shrink.ensures c.references_between.ensures in
+    record { keeps = kept; outline_is = c.refresh.ensures }
 
 pub returns : goal.returns
 returns c =
     let at : node_at c.self.inside.nodes c.args.serial ≡ Some c.unwrap.result.now = sym c.get.ensures ∙ ap option_copied c.unwrap.ensures in
-    let start = place_told c.self.inside.nodes c.self.inside.next c.self.invariant.valid.numbered c.args.serial c.unwrap-start.result (ap is_some at) (sym c.unwrap-start.ensures ∙ c.position.ensures) in
-    removed_is (record { nodes = c.self.inside.nodes; next = c.self.inside.next }) c.remove.new.self c.args.serial c.unwrap-start.result c.end_of-end.result c.unwrap.result.now c.self.invariant.valid at start c.end_of-end.ensures c.remove.ensures
+    let start = place_told c.self.inside.nodes c.self.inside.next c.self.invariant.keeps.valid.numbered c.args.serial c.unwrap-start.result (ap is_some at) (sym c.unwrap-start.ensures ∙ c.position.ensures) in
+    removed_is (record { nodes = c.self.inside.nodes; next = c.self.inside.next }) c.remove.new.self c.args.serial c.unwrap-start.result c.end_of-end.result c.unwrap.result.now c.self.invariant.keeps.valid at start c.end_of-end.ensures c.remove.ensures
     ∙ ap (λ d. node_removed d c.args.serial) c.self.view_is

@@ -13,7 +13,7 @@ has_room-requires c = few_among c.args.self.now.nodes c.args.parent c.args.kind 
 
 pub returns-in_err-has_room-clause-err : goal.returns-in_err-has_room-clause-err
 returns-in_err-has_room-clause-err c =
-    let valid = subst IsValid c.self.view_is c.self.invariant.valid in
+    let valid = subst IsValid c.self.view_is c.self.invariant.keeps.valid in
     let grown = after c.args.self.now valid c.args.parent c.args.place c.args.kind c.args.attrs c.requires in
     on_err (IsFaultOf (insert_outcome c.args.self.now c.args.parent c.args.place c.args.kind c.args.attrs)) c.from_residual-in_err-has_room.result c.in_err-has_room.field-0.0 c.from_residual-in_err-has_room.ensures.1
     (fault_of (insert_outcome c.args.self.now c.args.parent c.args.place c.args.kind c.args.attrs) c.in_err-has_room.field-0.0
@@ -24,13 +24,13 @@ returns-in_err-has_room-clause-err c =
 
 pub put-requires-clause-within : goal.put-requires-clause-within
 put-requires-clause-within c =
-    let valid = subst IsValid c.self.view_is c.self.invariant.valid in
+    let valid = subst IsValid c.self.view_is c.self.invariant.keeps.valid in
     let at = c.position_of_child-at.ensures ∙ ap (λ (d : Document). child_place d.nodes c.args.parent (slice_get (children d.nodes c.args.parent) (c.args.place - 1))) c.self.view_is in
     subst (λ k. k ≤ length c.args.self.now.nodes) (sym at) (place_within c.args.self.now valid c.args.parent c.args.place c.args.kind c.args.attrs c.requires)
 
 pub put-requires-clause-valid : goal.put-requires-clause-valid
 put-requires-clause-valid c =
-    let valid = subst IsValid c.self.view_is c.self.invariant.valid in
+    let valid = subst IsValid c.self.view_is c.self.invariant.keeps.valid in
     let grown = after c.args.self.now valid c.args.parent c.args.place c.args.kind c.args.attrs c.requires in
     let at = c.position_of_child-at.ensures ∙ ap (λ (d : Document). child_place d.nodes c.args.parent (slice_get (children d.nodes c.args.parent) (c.args.place - 1))) c.self.view_is in
     let serial = ap (λ (d : Document). d.next) c.self.view_is in
@@ -43,7 +43,7 @@ put-requires-clause-valid c =
 
 pub returns-clause-ok : goal.returns-clause-ok
 returns-clause-ok c =
-    let valid = subst IsValid c.self.view_is c.self.invariant.valid in
+    let valid = subst IsValid c.self.view_is c.self.invariant.keeps.valid in
     let grown = after c.args.self.now valid c.args.parent c.args.place c.args.kind c.args.attrs c.requires in
     let at = c.position_of_child-at.ensures ∙ ap (λ (d : Document). child_place d.nodes c.args.parent (slice_get (children d.nodes c.args.parent) (c.args.place - 1))) c.self.view_is in
     let serial = ap (λ (d : Document). d.next) c.self.view_is in

@@ -10,7 +10,7 @@ use Rattle.smil_tree.proofs.tree.Tree.takes_id.Goals as goal
 pub returns-in-Id : goal.returns-in-Id
 returns-in-Id c =
     c.other_has.ensures
-    ∙ ap (is_other c.args.serial) (c.self.invariant.ids c.slice.result.now)
-    ∙ sym (taken c.slice.result.now c.args.serial c.self.inside.nodes (once_of _ c.self.invariant.valid c.slice.result.now))
+    ∙ ap (is_other c.args.serial) (c.self.invariant.keeps.ids c.slice.result.now)
+    ∙ sym (taken c.slice.result.now c.args.serial c.self.inside.nodes (once_of _ c.self.invariant.keeps.valid c.slice.result.now))
     ∙ ap (λ d. is_id_taken d.nodes c.args.serial (Some c.slice.result.now)) c.self.view_is
     ∙ ap (λ a. is_id_taken c.args.self.now.nodes c.args.serial (id_in a)) (ap attr.Id c.slice.ensures ∙ sym c.in-Id.is)

@@ -1,16 +1,19 @@
 use Rattle.std.proofs.Common.{sym, ap, ◌∙◌}
-use Rattle.std.specs.Prelude.{find}
-use Rattle.std.specs.Option.{option_copied}
-use Rattle.smil_model.specs.document.Document.{time_parent, is_element, serial_of}
-use Rattle.smil_laws.proofs.Numbered.{ordered}
-use Rattle.smil_tree.proofs.Families.{above_of}
+use Rattle.std.specs.Prelude.{option_map}
+use Rattle.smil_model.specs.document.Document.{time_parent, serial_of}
+use Rattle.smil_laws.proofs.Rounds.{find-serial}
+use Rattle.smil_tree.specs.declared.outline.Placed.{Placed}
+use Rattle.smil_tree.proofs.Outlines.{parent_serial}
 use Rattle.smil_tree.proofs.tree.Tree.time_parent.Goals as goal
 
-pub element_from-requires : goal.element_from-requires
-element_from-requires c = ordered _ c.self.invariant.valid.numbered
+pub returns-in-Some : goal.returns-in-Some
+returns-in-Some c =
+    ap (option_map (λ (x : Placed). x.serial)) (sym c.in-Some.is)
+    ∙ parent_serial c.args.self.now.nodes (time_parent c.args.self.now.nodes c.row.ensures.0.serial) _ c.row.ensures.2.parent
+    ∙ ap (λ s. serial_of (time_parent c.args.self.now.nodes s)) (find-serial c.args.serial c.args.self.now.nodes c.row.ensures.0 c.row.ensures.1)
 
-pub returns : goal.returns
-returns c =
-    c.element_from.ensures
-    ∙ ap (λ l. serial_of (find is_element l)) (sym (above_of c.self.inside.nodes (ordered _ c.self.invariant.valid.numbered) c.args.serial c.unwrap.result.now (sym c.get.ensures ∙ ap option_copied c.unwrap.ensures)))
-    ∙ ap (λ d. serial_of (time_parent d.nodes c.args.serial)) c.self.view_is
+pub returns-in-None : goal.returns-in-None
+returns-in-None c =
+    ap (option_map (λ (x : Placed). x.serial)) (sym c.in-None.is)
+    ∙ parent_serial c.args.self.now.nodes (time_parent c.args.self.now.nodes c.row.ensures.0.serial) _ c.row.ensures.2.parent
+    ∙ ap (λ s. serial_of (time_parent c.args.self.now.nodes s)) (find-serial c.args.serial c.args.self.now.nodes c.row.ensures.0 c.row.ensures.1)

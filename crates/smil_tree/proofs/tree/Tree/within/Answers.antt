@@ -6,7 +6,7 @@ use Rattle.smil_tree.proofs.tree.Tree.within.Goals as goal
 
 pub between-requires : goal.between-requires
 between-requires c =
-    let fits = span_fits c.self.inside.nodes c.self.inside.next c.self.invariant.valid.numbered _ c.args.serial c.span-start.result c.self.view_is c.requires c.span-start.ensures.places in
+    let fits = span_fits c.self.inside.nodes c.self.inside.next c.self.invariant.keeps.valid.numbered _ c.args.serial c.span-start.result c.self.view_is c.requires c.span-start.ensures.places in
     record { in_order = omega (arith, fits.0); within = fits.1 }
 
 pub returns : goal.returns

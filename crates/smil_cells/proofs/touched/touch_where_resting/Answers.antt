@@ -1,0 +1,22 @@
+use Rattle.std.proofs.Common.{◌≡◌, ◌∙◌, sym, ap, subst, Some, true, false}
+use Rattle.std.proofs.lemmas.Result.{on_ok_weaker}
+use Rattle.std.specs.Prelude.{is_some}
+use Rattle.smil_model.specs.document.Document.{Document, node_at}
+use Rattle.smil_instances.proofs.Targets.{known_node}
+use Rattle.smil_cells.specs.Shown.{AreWithinPut}
+use Rattle.smil_cells.proofs.touched.touch_where_resting.Goals as goal
+
+pub touch_within-requires : goal.touch_within-requires
+touch_within-requires c =
+    subst (λ (d : Document). is_some (node_at d.nodes c.args.who) ≡ true) (sym c.tree.ensures) (known_node c.args.past.now.document.nodes c.args.who c.requires)
+
+pub returns-then-may_rest-clause-put : goal.returns-then-may_rest-clause-put
+returns-then-may_rest-clause-put c =
+    on_ok_weaker {P = AreWithinPut c.tree.result.now.nodes c.args.who c.touch_within.new.touched} c.touch_within.result
+    (λ within n here rests. subst (λ (d : Document). AreWithinPut d.nodes c.args.who c.touch_within.new.touched) c.tree.ensures within)
+    c.touch_within.ensures.within
+
+pub returns-else-may_rest-clause-put : goal.returns-else-may_rest-clause-put
+returns-else-may_rest-clause-put c = λ n here rests.
+    let never : false ≡ true = sym c.if-may_rest.false ∙ c.may_rest.ensures n here ∙ rests in
+    cc

@@ -1,0 +1,13 @@
+use Rattle.std.proofs.Common.{arith}
+use Rattle.std.specs.Int.{w64}
+use Rattle.std.proofs.lemmas.Nat.Bits.{bit_at-trailing_zeros}
+use Rattle.smil_model.proofs.place_set.lowest_bit.Goals as goal
+
+pub returns-clause-within : goal.returns-clause-within
+returns-clause-within c = (bit_at-trailing_zeros w64 c.args.word (omega (arith, c.requires)) (omega (arith, c.ranges.word))).0
+
+pub returns-clause-set : goal.returns-clause-set
+returns-clause-set c = (bit_at-trailing_zeros w64 c.args.word (omega (arith, c.requires)) (omega (arith, c.ranges.word))).1
+
+pub returns-clause-clear : goal.returns-clause-clear
+returns-clause-clear c = (bit_at-trailing_zeros w64 c.args.word (omega (arith, c.requires)) (omega (arith, c.ranges.word))).2

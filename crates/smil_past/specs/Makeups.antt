@@ -1,0 +1,26 @@
+-- What evaluation reads of the attributes of an element.
+use Rattle.std.specs.Prelude.{List, Option, None, Some, if◌then◌else◌}
+use Rattle.smil_model.specs.declared.times.Time.{Time}
+use Rattle.smil_model.specs.declared.document.Attrs.{Attrs}
+use Rattle.smil_model.specs.declared.document.Node.{Node}
+use Rattle.smil_model.specs.document.Defaults.{effective_fill, max_of, min_of, restart_of, takes_implicit}
+use Rattle.smil_model.specs.interval.Current.{end_list_of}
+use Rattle.smil_model.specs.interval.Durations.{stated_duration}
+use Rattle.smil_past.specs.declared.makeup.Makeup.{Makeup}
+
+-- the simple duration where it is not the implicit one
+abbrev pub stated_simple : Attrs → Option Time
+stated_simple attrs =
+    if takes_implicit attrs attrs.dur then None else Some (stated_duration attrs.dur)
+
+abbrev pub makeup_of : List Node → Node → Makeup
+makeup_of nodes e = record {
+  simple = stated_simple e.attrs;
+  min = min_of e.attrs;
+  max = max_of e.attrs;
+  count = e.attrs.repeat_count;
+  repeat_dur = e.attrs.repeat_dur;
+  end_list = end_list_of e.attrs.«end»;
+  restart = restart_of nodes e;
+  fill = effective_fill nodes e;
+}

@@ -1,0 +1,118 @@
+//! What evaluation reads of the attributes of an element.
+
+ghost use Rattle.std.specs.Prelude.{◌≡◌, Some, IsSome};
+ghost use Rattle.std.specs.List.{list_any};
+ghost use Rattle.smil_model.specs.declared.document.Node.{Node as AnyNode};
+ghost use Rattle.smil_model.specs.document.Document.{node_at};
+ghost use Rattle.smil_model.specs.document.Defaults as defaults;
+ghost use Rattle.smil_model.specs.interval.Current as model;
+ghost use Rattle.smil_past.specs.Makeups.{makeup_of, stated_simple};
+
+use smil_duration::{Bounds, simple, takes_implicit};
+use smil_model::{Attrs, Count, EndList, Fill, Item, Items, Restart, Time};
+use smil_tree::Tree;
+
+/// What evaluation reads of the attributes of an element, in milliseconds.
+#[derive(Clone, Copy)]
+pub struct Makeup {
+    /// The simple duration; None where it is the implicit one.
+    pub simple: Option<Time>,
+    pub min: i64,
+    pub max: Time,
+    pub count: Option<Count>,
+    pub repeat_dur: Option<Time>,
+    pub end_list: EndList,
+    /// The restart that holds: never `ByDefault`.
+    pub restart: Restart,
+    /// The fill that holds: never `auto`.
+    pub fill: Fill,
+}
+
+/// The makeup of an element. It takes no memory.
+pub fn makeup_of(tree: &Tree, who: u32) -> Makeup
+    requires { IsSome (node_at tree.now.nodes who) }
+    ensures { (e : AnyNode) → node_at tree.now.nodes who ≡ Some e
+        → result ≡ makeup_of tree.now.nodes e }
+{
+    let attrs = tree.attrs(who);
+    let bounds = Bounds::of_attrs(attrs);
+    Makeup {
+        simple: stated_simple(attrs),
+        min: bounds.min(),
+        max: bounds.max(),
+        count: attrs.repeat_count,
+        repeat_dur: attrs.repeat_dur,
+        end_list: end_list(&attrs.end),
+        restart: tree.restart_of(who),
+        fill: fill_by(attrs, tree.fill_of(who)),
+    }
+}
+
+// The simple duration where it is not the implicit one.
+fn stated_simple(attrs: &Attrs) -> Option<Time>
+    ensures { result ≡ stated_simple attrs.now }
+{
+    if takes_implicit(attrs) {
+        None
+    } else {
+        Some(simple(attrs, Time::Unresolved))
+    }
+}
+
+// What an end list leaves open where it has no usable end instance.
+fn end_list(items: &Option<Items>) -> EndList
+    ensures { result ≡ model.end_list_of items.now }
+{
+    match items {
+        None => EndList::Absent,
+        Some(items) => {
+            if hears(items) {
+                EndList::Hearing
+            } else {
+                EndList::Plain
+            }
+        }
+    }
+}
+
+// Whether a list has an item that hears.
+fn hears(items: &Items) -> bool
+    ensures { result ≡ list_any model.is_event_item items.now }
+{
+    items.slice().iter().any(|item| is_heard(item))
+}
+
+// Whether an item is for an event, a repeat or an access key.
+fn is_heard(item: &Item) -> bool
+    ensures { result ≡ model.is_event_item item.now }
+{
+    match item {
+        Item::Event { .. } | Item::Repeat { .. } | Item::Key { .. } => true,
+        Item::Offset { .. } | Item::Sync { .. } | Item::Indefinite => false,
+    }
+}
+
+// What `auto` means by the other attributes.
+fn fill_by(attrs: &Attrs, fill: Fill) -> Fill
+    ensures { result ≡ defaults.fill_by attrs.now fill }
+{
+    match fill {
+        Fill::Auto => fill_when_auto(attrs),
+        stated => stated,
+    }
+}
+
+// `auto` freezes where nothing limits the duration.
+fn fill_when_auto(attrs: &Attrs) -> Fill
+    ensures { result ≡ defaults.fill_when_auto attrs.now }
+{
+    if attrs.dur.is_some()
+        || attrs.end.is_some()
+        || attrs.repeat_count.is_some()
+        || attrs.repeat_dur.is_some()
+    {
+        Fill::Remove
+    } else {
+        Fill::Freeze
+    }
+}
