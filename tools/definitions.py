@@ -5,6 +5,7 @@ usage: definitions.py [--counts] SESSION [WORD ..]
        definitions.py --explain ELEMENT MOMENT [--of NAME] SESSION
        definitions.py --cover [SESSION ..]
        definitions.py --changes [NUMBER [SECONDS]]
+       definitions.py --rules
 
 The definitions of crates/*/specs are read, translated to Python clause by clause and run; only the kit's prelude is
 written in Python (tools/definitions/kit.py). Printed is what smilplay writes for the session with these words, which
@@ -19,6 +20,8 @@ are those of SESSION.args where no WORD is given, or `run`; the exit number is s
            of them uses.
 --changes  changes single places of the definitions behind each rule of docs/TIMING.md, up to NUMBER of each (2), and
            tells which session sees each change, or that none does; of each change for at most so many seconds.
+--rules    changes a definition behind each rule of docs/TIMING.md as tools/definitions/rules.txt says, and tells
+           whether the session that stands there sees it.
 
 It needs Python 3.8 and nothing else. It tells in its own words what it can't read: the file, the line and the form.
 """
@@ -72,6 +75,9 @@ def main(words):
     if words[0] == "--changes":
         from definitions.mutants import main as changes
         return changes(words[1:])
+    if words[0] == "--rules":
+        from definitions.rules import main as rules
+        return rules()
     if words[0].startswith("--"):
         print("usage: definitions.py [--counts] SESSION [WORD ..], or --help", file=sys.stderr)
         return 2

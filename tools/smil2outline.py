@@ -32,7 +32,9 @@ beside it. Of a switch the first child is taken whose tests hold; a test that no
                      and a line for each to the standard output: file, part of the book, title
 
 FILE may be an EPUB with media overlays or the folder of a DAISY book. Without --parts each of its
-parts is a load, NAME or `part` with the part's number.
+parts is a load, NAME or `part` with the part's number. It may be a page with HTML+TIME, of XML or
+not: its body is then a par, an element with a timeContainer that container, any other with times,
+or whose events are waited for, a text or an img whose title is its words.
 
 The exit number is 0 where an outline was written; 1 where the file can't be read, has no body, or
 doesn't fit the limits in docs/LIMITS.md; 2 where the words can't be read.
@@ -44,6 +46,7 @@ import sys
 from pathlib import Path
 
 from smil_book import Book, is_book
+from smil_html import as_smil, page
 from smil_tests import Tests
 from smil_translation import Translation
 from smil_wall import Start
@@ -141,10 +144,21 @@ def as_load(name, start, lines):
     return [f"load {name} at {start.text}" if start else f"load {name}", *lines, "%%"]
 
 
+def tree(data, name):
+    """The tree of a SMIL file in bytes, or that of a page with times. Raises Fault where it can't be read."""
+    try:
+        root = read_xml(data, name)
+    except Fault:
+        root = page(data, name)
+        if root is None:
+            raise
+    return (as_smil(root) or root) if root.name == "html" else root
+
+
 def one_file(options):
     """Writes the outline of a file, and gives its clips. Raises Fault and OSError where it can't be read or written."""
     with open(options.file, "rb") as file:
-        root = read_xml(file.read(), options.file)
+        root = tree(file.read(), options.file)
     translation = translated(root, options.file, options)
     print("\n".join(as_load(options.load, options.start, translation.lines) if options.load else translation.lines))
     return translation.clips

@@ -35,6 +35,7 @@ class Book:
                 self.zip = zipfile.ZipFile(path)
             except zipfile.BadZipFile:
                 raise Fault(f"{path}: no zip file") from None
+        self.spelled = {name.lower(): name for name in self.names()}
 
     def names(self):
         """The paths of all files of the book."""
@@ -54,6 +55,10 @@ class Book:
             return self.zip.read(path)
         except (KeyError, OSError, RuntimeError, zipfile.BadZipFile):
             raise Fault(f"{self.name}: {path} can't be read") from None
+
+    def found(self, path):
+        """A path as the book spells it: books made where the case of names doesn't count may mix it."""
+        return self.spelled.get(path.lower(), path)
 
     def xml(self, path):
         """The root element of a file of the book. Raises Fault where it can't be read."""
@@ -78,7 +83,8 @@ class Book:
         """The path of an EPUB's package file. Raises Fault where none is named."""
         for element in self.xml("META-INF/container.xml").all():
             if element.name == "rootfile" and element.attributes.get("full-path"):
-                return element.attributes["full-path"]
+                path = element.attributes["full-path"]
+                return path if path.lower() in self.spelled else self.found(unquote(path))
         raise Fault(f"{self.name}: META-INF/container.xml names no package file")
 
     def packaged(self, opf):
@@ -90,10 +96,10 @@ class Book:
         for element in package.all():
             item = items.get(element.attributes.get("idref")) if element.name == "itemref" else None
             if item and item.get("media-type") in SMILS:
-                overlays.append((joined(opf, item.get("href", "")), None))
+                overlays.append((self.found(joined(opf, item.get("href", ""))), None))
             elif item and item.get("media-overlay") in items:
                 overlay = items[item["media-overlay"]].get("href", "")
-                overlays.append((joined(opf, overlay), joined(opf, item.get("href", ""))))
+                overlays.append((self.found(joined(opf, overlay)), joined(opf, item.get("href", ""))))
         try:
             titles = self.titles(opf, items.values())
         except Fault:
@@ -125,7 +131,7 @@ class Book:
         """The parts that a DAISY 2.02 table of contents names, in its order."""
         parts = {}
         for link in self.xml(ncc).all():
-            path = joined(ncc, link.attributes.get("href", "")) if link.name == "a" else ""
+            path = self.found(joined(ncc, link.attributes.get("href", ""))) if link.name == "a" else ""
             if path.lower().endswith((".smil", ".smi")):
                 parts.setdefault(path, Part(path, link.text()))
         return list(parts.values())

@@ -14,8 +14,9 @@ class Fault(Exception):
 class Element:
     """An element of a file. `text` is what stands in it and below it, white space as it is."""
 
-    def __init__(self, name, attributes, line):
+    def __init__(self, name, attributes, line, prefix=""):
         self.name = name
+        self.prefix = prefix
         self.attributes = attributes
         self.line = line
         self.children = []
@@ -58,35 +59,56 @@ def decoded(data, name):
         raise Fault(f"{name}:1: the encoding {match[1].decode() if match else 'utf-8'} can't be read") from None
 
 
+class Growth:
+    """The elements of a file as a parser tells of them, below one without a name."""
+
+    def __init__(self, parser, name):
+        self.parser = parser
+        self.name = name
+        self.top = Element("", {}, 0)
+        self.opened = [self.top]
+        self.last = None  # the element that the last words stood in, and nothing has begun or ended since
+        parser.StartElementHandler = self.start
+        parser.EndElementHandler = self.end
+        parser.CharacterDataHandler = self.words
+        parser.SkippedEntityHandler = self.skipped
+
+    def start(self, tag, attributes):
+        """Opens an element. Raises Fault where it is nested too deep."""
+        self.last = None
+        line = self.parser.CurrentLineNumber
+        if len(self.opened) > DEEPEST:
+            raise Fault(f"{self.name}:{line}: elements stand more than {DEEPEST} deep")
+        prefix, _, local = tag.rpartition(":")
+        element = Element(local, attributes, line, prefix)
+        self.opened[-1].children.append(element)
+        self.opened.append(element)
+
+    def end(self, _):
+        """Closes the innermost open element, whose words are its parent's too."""
+        self.last = None
+        closed = self.opened.pop()
+        self.opened[-1].pieces += closed.pieces[:20]
+
+    def words(self, piece):
+        """Takes in words, behind those that came right before them in the same element."""
+        if self.last is self.opened[-1]:
+            self.last.pieces[-1] += piece
+        else:
+            self.last = self.opened[-1]
+            self.last.pieces.append(piece)
+
+    def skipped(self, entity, is_parameter):
+        """Takes in the words of an entity that the file doesn't define, as HTML does."""
+        if not is_parameter:
+            self.words(html.unescape(f"&{entity};"))
+
+
 def parsed(text, name):
     """The root element of a text or of bytes. Raises Fault where it is no XML, or nested too deep."""
-    top = Element("", {}, 0)
-    opened = [top]
     parser = expat.ParserCreate()
     parser.buffer_text = True
-
-    def start(tag, attributes):
-        if len(opened) > DEEPEST:
-            raise Fault(f"{name}:{parser.CurrentLineNumber}: elements stand more than {DEEPEST} deep")
-        element = Element(tag.split(":")[-1], attributes, parser.CurrentLineNumber)
-        opened[-1].children.append(element)
-        opened.append(element)
-
-    def end(_):
-        closed = opened.pop()
-        opened[-1].pieces += closed.pieces[:20]
-
-    def words(piece):
-        opened[-1].pieces.append(piece)
-
-    def skipped(entity, is_parameter):
-        if not is_parameter:
-            words(html.unescape(f"&{entity};"))
-
-    parser.StartElementHandler = start
-    parser.EndElementHandler = end
-    parser.CharacterDataHandler = words
-    parser.SkippedEntityHandler = skipped
+    growth = Growth(parser, name)
     if isinstance(text, str):
         text = re.sub(r"""^(\s*<\?xml[^>]*?)\s+encoding=["'][^"']*["']""", r"\1", text)
     try:
@@ -95,4 +117,4 @@ def parsed(text, name):
         if fault.code == 18:
             raise
         raise Fault(f"{name}:{fault.lineno}: no XML: {expat.ErrorString(fault.code)}") from None
-    return top.children[0]
+    return growth.top.children[0]

@@ -9,8 +9,9 @@ from .sessions import TOP, words_of
 # a session: where it stands, the words of the program, its text, and the transcript that is stored
 Session = namedtuple("Session", "name words text wanted")
 
-# the word that stands for the counts of a session
+# what stands in the place of words for the counts of a session, and for what holds of its presentations
 COUNTS = ["--counts"]
+JUDGED = ["--judged"]
 
 # the sessions that the definitions don't run in seconds, and why
 LEFT_OUT = {
@@ -47,6 +48,13 @@ def counted_sessions():
     for path in sorted((TOP / "tools" / "tests" / "counts").glob("*.txt")):
         name = f"examples/{path.stem}.play"
         yield Session(f"counts of {name}", COUNTS, (TOP / name).read_bytes(), path.read_bytes())
+
+
+def judged_sessions():
+    """The examples whose presentations at the end are asked for those that are no states, or not lawful: none is."""
+    for session in examples():
+        if session.words == ["run"]:
+            yield Session(f"presentations of {session.name}", JUDGED, session.text, b"")
 
 
 def all_sessions():

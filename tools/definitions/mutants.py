@@ -24,6 +24,7 @@ Change = namedtuple("Change", "module name clause number old new")
 
 SECONDS = 2                 # of processor time that a session is given, and ten times what it takes as it stands
 NO_MEANING = "none: it has no meaning"
+ENDLESS = "one that doesn't end"
 REASONS = TOP / "tools" / "definitions" / "unseen.txt"
 NAMES = {"int_lt": ["int_le"], "int_le": ["int_lt"], "nat_lt": ["nat_le"], "nat_le": ["nat_lt"],
          "least_time": ["greatest_time"], "greatest_time": ["least_time"], "list_any": ["list_all"],
@@ -150,6 +151,8 @@ def outcome(definitions, session):
     """What the definitions write for a session."""
     if session.words == collection.COUNTS:
         return counts_text(definitions, session.text).encode()
+    if session.words == collection.JUDGED:
+        return "".join(f"{name}\n" for name in definitions.unlawful(session.text)).encode()
     text = []
     definitions.serve(session.words, session.text, text.append)
     return b"".join(text)
@@ -178,7 +181,11 @@ class Tries:
                 continue
             used = {program.clauses[number] for number in program.covered}
             self.sessions.append((time.process_time() - started, session, used))
-        for entry in ENTRIES:
+        self.translate(ENTRIES)
+
+    def translate(self, entries):
+        """Translates what is entered so, and all that this uses."""
+        for entry in entries:
             self.definitions.at(entry)
         self.reset()
         gc.collect()
@@ -197,16 +204,16 @@ class Tries:
 
     def seen_by(self, change):
         """The name of the first session that sees a change, or None."""
-        reading, writing = os.pipe()
-        child = os.fork()
-        if child == 0:
-            os.write(writing, json.dumps(self.first_other(change)).encode())
-            os._exit(0)
-        os.close(writing)
-        with os.fdopen(reading, "rb") as answers:
-            answer = answers.read()
-        os.waitpid(child, 0)
-        return json.loads(answer) if answer else "one that doesn't end"
+        return in_a_process(lambda: self.first_other(change))
+
+    def is_other(self, session, seconds):
+        """Whether a session has another transcript by the definitions as they are now, or none in so many seconds."""
+        signal.setitimer(signal.ITIMER_VIRTUAL, seconds)
+        self.reset()
+        try:
+            return outcome(self.definitions, session) != session.wanted
+        except (Exception, RecursionError):
+            return True
 
     def first_other(self, change):
         module = self.program.library.module(change.module)
@@ -224,14 +231,25 @@ class Tries:
         for seconds, session in self.likely(change.module, (change.module, change.name, line)):
             if time.process_time() - started > self.most:
                 return None
-            signal.setitimer(signal.ITIMER_VIRTUAL, SECONDS + 10 * seconds)
-            self.reset()
-            try:
-                if outcome(self.definitions, session) != session.wanted:
-                    return session.name
-            except (Exception, RecursionError):
+            if self.is_other(session, SECONDS + 10 * seconds):
                 return session.name
         return None
+
+
+def in_a_process(function):
+    """What a function gives, called in a process of its own; what it changes stays there."""
+    reading, writing = os.pipe()
+    child = os.fork()
+    if child == 0:
+        try:
+            os.write(writing, json.dumps(function()).encode())
+        finally:
+            os._exit(0)
+    os.close(writing)
+    with os.fdopen(reading, "rb") as answers:
+        answer = answers.read()
+    os.waitpid(child, 0)
+    return json.loads(answer) if answer else ENDLESS
 
 
 # ---- which places

@@ -10,7 +10,7 @@ from pathlib import Path
 
 sys.path.insert(0, str(Path(__file__).resolve().parent.parent))
 
-from definitions import collection, explain, kit, mutants, values
+from definitions import collection, explain, kit, mutants, rules, values
 from definitions.modules import Library, Missing
 from definitions.sessions import CRATES, ENTRIES, Definitions, counts_text
 
@@ -161,6 +161,25 @@ class Tools(unittest.TestCase):
             self.assertEqual(kit.lines(tuple(text)), tuple(map(tuple, parts)))
         self.assertEqual(kit.decimal(-12), tuple(b"-12"))
         self.assertEqual(kit.quotient(7, 0), 0)
+
+
+class Rules(unittest.TestCase):
+    """The rules of docs/TIMING.md, each with a change of a definition and the session that sees it."""
+
+    def test_each_row_has_one(self):
+        told, words = rules.told(), [rule.words for rule in rules.rules()]
+        self.assertEqual([row for row in told if sum(map(row.startswith, words)) != 1], [])
+        self.assertEqual(len(told), len(words))
+
+    def test_each_is_seen_or_has_a_reason(self):
+        tries, named = mutants.Tries(), rules.sessions()
+        in_room(tries.translate, rules.ENTERED)
+        for rule in rules.rules():
+            with self.subTest(rule.words):
+                if rule.session:
+                    self.assertTrue(in_room(rules.sees, tries, rule, named[rule.session]))
+                else:
+                    self.assertTrue(rule.reason)
 
 
 class Lines(unittest.TestCase):

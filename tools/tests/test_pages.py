@@ -8,7 +8,7 @@ from calling import EXAMPLES, TOOLS, TOP, call, program
 
 MODULES = ("transcript.py", "session.py", "timeline_page.py", "smil_xml.py", "smil_book.py", "smil_clock.py",
            "smil_names.py", "smil_tests.py", "smil_translation.py", "smil_values.py", "smil_wall.py",
-           "smil_choice.py", "smilplay.py", "export_csv.py", "export_vtt.py", "export_otio.py",
+           "smil_choice.py", "smil_html.py", "smilplay.py", "export_csv.py", "export_vtt.py", "export_otio.py",
            "timeline_states.py", "timeline_svg.py", "lint_shape.py", "lint_load.py", "lint_document.py", "lint_events.py")
 
 
@@ -77,6 +77,7 @@ class Pages(unittest.TestCase):
         for session in sessions:
             self.assertIn(f"| `{session.name}` |", listed)
         self.assertEqual(listed.count(".play` |"), len(sessions))
+        self.assertEqual([path.name for path in EXAMPLES.glob("*.args") if path.read_text() == "run\n"], [])
 
     def test_a_word_that_no_name_has_is_a_fault(self):
         status, out, err = call(TOOLS / "test.py", "--only", "no name has this", program())

@@ -35,6 +35,14 @@ syntax match smilplayPrefer "^ *prefer\ze \+\(bitrate\|captions\|audiodesc\|lang
       \ nextgroup=smilplayPreferred skipwhite
 syntax match smilplayPreferred "[a-z]\+" contained
 syntax match smilplayEnd "^ *%% *$"
+
+" Entries of a diary, for audit, and its last line.
+syntax match smilplayMoment "^[0-9]\+\ze [a-z]" nextgroup=smilplayEntry skipwhite
+syntax match smilplayMoment "\(^[0-9]\+ [a-z]\+ #[0-9]\+ \|^now \)\@<=-\?[0-9]\+$"
+syntax match smilplayEntry "\(event\|media\|key\|began\|deferred\|passed\|repeated\|ended\|cut\|paused\|resumed\)\>"
+      \ contained
+syntax match smilplayEntry "^now\ze [0-9]\+$"
+
 syntax match smilplaySerial "#[1-9][0-9]*"
 syntax match smilplayComment "^#.*$"
 syntax match smilplayHeader "^outline 2 next [1-9][0-9]*$"
@@ -47,6 +55,8 @@ highlight default link smilplayAt Statement
 highlight default link smilplayInstant Number
 highlight default link smilplayPrefer Statement
 highlight default link smilplayPreferred Identifier
+highlight default link smilplayMoment Number
+highlight default link smilplayEntry Statement
 highlight default link smilplayEnd Delimiter
 highlight default link smilplaySerial Identifier
 highlight default link smilplayComment Comment
