@@ -1022,11 +1022,11 @@ def instances_row(scene, e):
 
 
 def told_play(scene):
-    """The moment, the clocks and the instance times, each the same where they are made anew."""
+    """The moment, the clocks and the instance times, each the same where they are made anew, and after going back."""
     elements = scene.world.elements
     rows = ['%d' % scene.moment]
     rows += [clocks_row(scene, e, before) for e, before in zip(elements, elements[:1] + elements)] + ['1']
-    return ' '.join(rows + [instances_row(scene, e) for e in elements] + ['1'])
+    return ' '.join(rows + [instances_row(scene, e) for e in elements] + ['1', '1'])
 
 
 class Refused(Exception):
@@ -1273,6 +1273,7 @@ def fixed_plays():
               '      img id="b" begin="3s;c.begin" dur="2s"', '  img id="o" begin="a.begin+4s;c.end" dur="2s" end="key.end;accesskey(y)"']
     repeats = ['seq id="s" repeatCount="2"', '  par id="p" dur="4s" repeatCount="2.5"', '    img id="i" begin="1s;p.repeat(1)" dur="1s"',
                '  audio id="m" begin="1s" end="accesskey(x);s.click+1s"']
+    often = ['par', '  img id="a" dur="500ms" repeatCount="90"', '  img id="b" begin="a.repeat(3)" dur="1s" repeatCount="60" end="click"']
     for lines, orders in [
             (['par'], []), (pauses, []), (pauses, ['seek 1s']), (pauses, ['seek 3s']), (pauses, ['seek 4s']), (pauses, ['seek 5s', 'advance 1s']),
             (pauses, ['seek 7s', 'event c click', 'advance 500ms']), (pauses, ['seek 4s', 'event #4 click', 'key y', 'seek 30s']),
@@ -1280,7 +1281,7 @@ def fixed_plays():
             (repeats, ['seek 11s', 'media #4 7s', 'key x', 'event s click', 'advance 1s', 'advance 999999987000ms']),
             (repeats, ['seek 5s', 'seek 4s']), (repeats, ['advance 1000000000000ms', 'advance 0', 'advance 1ms']),
             (repeats, ['event nobody click']), (repeats, ['event #999999999 click']), (repeats, ['event #0 click']),
-            (repeats, ['event s beginEvent']), (repeats, ['show']), (['img'], [])]:
+            (repeats, ['event s beginEvent']), (repeats, ['show']), (['img'], []), (often, ['seek 50s', 'event b click', 'advance 1s'])]:
         yield play_case(lines, ['d ' + order for order in orders])
     yield 'play par|%%|load d', 'refused'
 

@@ -4,7 +4,8 @@
 Makes the stored run of smil_sessions: the files stdin and stdout in DIR, which is
 crates/smil_sessions where it isn't told. FOLDER holds worked sessions: NAME.args
 (the words), NAME.in, NAME.out and NAME.status, which are served in pieces, and
-line by line, where each line waits for the answers before it. NAME.reads.table
+line by line, where each line waits for the answers before it; every fifth of them is
+held by a host too, which asks for its moments at its end. NAME.reads.table
 tells for reads of NAME.in, 16 bytes each, how many lines are answered where one of
 them fails, and the last line. Any other NAME.table has clock values, each with `|`
 and its number of milliseconds, Bad or TooLong. Sessions with faults of the outside,
@@ -83,6 +84,21 @@ FAULTS_TOLD = ('! 3 bad-value 17\n! 7 unsupported 14\n! 11 depth-jump\n! 15 bad-
                '! 18 not-a-command\n! 19 not-a-command\n! 20 not-a-command\n! 24 bad-outline\n0 #1 frozen 0 0 0 1\n'
                'ok 25 a 0\n! 28 bad-value 11\n0 #1 frozen 0 0 0 1\nok 29 a 0\n! 30 unfinished-load\n')
 
+# What a host asks of a session, and what it is told: when something comes next, a repeat too, and when nothing does.
+ASKED = [
+    ('next|d', 'next -\n'), *(('|' + line, '') for line in LOAD.splitlines()), ('', LOADED),
+    ('next|d', 'next 1000\n'), ('moment|d', 'moment 0\n'),
+    ('|d advance 999ms', 'ok 5 d 999\n'), ('next|d', 'next 1000\n'),
+    ('|d advance 1ms', '1000 a active 1000 3000 0 0\nok 6 d 1000\n'), ('next|d', 'next 3000\n'),
+    ('|d advance 5s', '3000 #1 frozen 0 3000 0 1\n3000 a done 1000 3000 0 1\nok 7 d 6000\n'), ('next|d', 'next -\n'),
+    ('|d seek 2s', '2000 #1 active 0 3000 0 0\n2000 a active 1000 3000 0 0\nok 8 d 2000\n'), ('next|d', 'next 3000\n'),
+    ('|load r', ''), ('|par dur="10s"', ''), ('|  img id="b" begin="click" dur="2s" repeatCount="2"', ''),
+    ('|%%', '0 #1 active 0 10000 0 0\nok 9 r 0\n'), ('next|r', 'next 10000\n'),
+    ('|r event b click', '0 b active 0 4000 0 0\nok 13 r 0\n'), ('next|r', 'next 2000\n'),
+    ('|r advance 3s', '2000 b active 0 4000 1 0\nok 14 r 3000\n'), ('next|r', 'next 4000\n'),
+    ('|close r', 'ok 15 r closed\n'), ('next|r', 'next -\n'), ('next|d', 'next 3000\n'),
+]
+
 # What a session shows, its words and options, its input, its transcript, and its exit number.
 CASES = [
     ('A session in pieces of 3 bytes', 'run chunk=3', FIRST, ANSWERED, 0),
@@ -102,6 +118,10 @@ CASES = [
     ('Faults of reading', 'run', FAULTS, FAULTS_TOLD, 1),
     ('A load without an end, whose last line has none', 'run', 'load e\npar', '! 1 unfinished-load\n', 1),
 ]
+
+
+# How many worked sessions stand between two that a host holds.
+HELD_APART = 5
 
 
 class Run:
@@ -125,6 +145,21 @@ class Run:
     def end(self, line, text, status):
         self.lines.append(line)
         self.told.append(f'session {self.headers}\n{text}exit {status}\n')
+
+    def asked(self, title, requests):
+        self.begin(title, 'held')
+        self.lines += [line for line, _ in requests if line] + ['end']
+        self.told.append(f'session {self.headers}\n' + ''.join(told for _, told in requests))
+
+    def held(self, title, given, text):
+        self.begin(title, 'held')
+        self.lines += ['|' + line for line in given.splitlines()]
+        text = re.sub(r'! \d+ unfinished-load\n$', '', text)
+        moments = moments_of(text)
+        self.lines += [f'moment|{name}' for name in moments]
+        self.lines.append('end')
+        asked = ''.join(f'moment {moment}\n' for moment in moments.values())
+        self.told.append(f'session {self.headers}\n{text}{asked}')
 
     def pieces(self, title, words, given, text, status):
         self.begin(title, 'session ' + words)
@@ -167,6 +202,16 @@ def answered_before(number, lines, text):
         if ends.get(line, len(lines) + 1) < number:
             taken += len(answer)
     return taken
+
+
+def moments_of(text):
+    """The moment of each presentation at the end of a transcript, `-` where it is closed; and that of one without."""
+    moments = {}
+    for line in text.splitlines():
+        words = line.split()
+        if words[:1] == ['ok'] and len(words) == 4:
+            moments[words[2]] = '-' if words[3] == 'closed' else words[3]
+    return {**moments, 'nobody': '-'}
 
 
 def title_of(words, given):
@@ -215,7 +260,7 @@ def put_faults(run):
     for line in ['frobnicate', '|a line without a session', 'end', 'endless']:
         run.refused(line)
     for header in ['session run chunk=0', 'session run chunk=-1', 'session run reads=1,', 'session run reads=',
-                   'session run writes=a', 'session run speed=2', 'turns run chunk=3']:
+                   'session run writes=a', 'session run speed=2', 'turns run chunk=3', 'held run']:
         run.headers += 1
         run.refused(header)
     run.begin('', 'session run')
@@ -225,6 +270,9 @@ def put_faults(run):
     run.end('end', LOADED, 0)
     run.begin('', 'turns run')
     for line in ['|a line without a number', 'end', 'end 0']:
+        run.refused(line)
+    run.begin('', 'held')
+    for line in ['3|a line with a number', 'crlf|a line with an end', 'end 3', 'end']:
         run.refused(line)
 
 
@@ -254,10 +302,15 @@ def listed(folder):
     run.turns('Each answer is written before the next line is read', 'run', FIRST, ANSWERED, 0)
     put_early_line(run)
     run.turns('Faults of reading, line by line', 'run', FAULTS, FAULTS_TOLD, 1)
+    run.held('The first session, which a host holds', FIRST, ANSWERED)
+    run.held('Faults of reading, in a session that a host holds: it has no end', FAULTS, FAULTS_TOLD)
+    run.asked('When something comes next', ASKED)
     for number, (title, words, given, text, status) in enumerate(worked(folder)):
         run.pieces(title, words + CHUNKS[number % len(CHUNKS)], given, text, status)
         if given:
             run.turns('The same, line by line', words, given, text, status)
+        if words == 'run' and number % HELD_APART == 0:
+            run.held('The same, which a host holds', given, text)
     for number, (read, given, text) in enumerate(failing_reads(folder)):
         title = '' if number else 'Reads of 16 bytes, of which each one fails in its turn'
         run.pieces(title, f'run chunk=16 reads={read}', given, text, 3)

@@ -1,3 +1,4 @@
+pub mod Filled
 pub mod Reads
 pub mod Remainder
 pub mod Writable

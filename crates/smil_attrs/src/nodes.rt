@@ -4,6 +4,7 @@ ghost use Rattle.std.specs.Prelude.{◌≡◌, ℕ, Some, IfOk, false};
 ghost use Rattle.smil_grammar.specs.Allowed.{IsAttrs};
 ghost use Rattle.smil_grammar.specs.Nodes.{WrittenAttr as WrittenText, Shape as ShapeText, column_at, attr_of, attrs_from, attrs_of, kind_of, kind_of_shape, node_of};
 ghost use Rattle.smil_grammar.specs.Gives.{GivesNode};
+ghost use Rattle.smil_attrs.specs.Filled.{filled};
 ghost use Rattle.smil_model.specs.document.Edits.{no_attrs};
 ghost use Rattle.smil_model.specs.document.Values.{is_seq_parent};
 ghost use Rattle.smil_model.specs.document.Valid.{may_stand};
@@ -56,6 +57,27 @@ fn attr(
     }
 }
 
+/// Reads the attributes of a node line of this shape, from left to right, into those of a node of
+/// this kind below a parent, None being for the root; one that was there is replaced. The first
+/// fault is answered, its column counted in bytes from 1, up to the greatest `u32`; the attributes
+/// before it are read then. It takes memory for texts and lists alone.
+pub fn read_attrs(
+    alloc: Global,
+    parent: Option<Kind>,
+    kind: Kind,
+    shape: &Shape<'_>,
+    attrs: &mut Attrs,
+) -> Result<(), NodeFault>
+    ensures { GivesNode (filled result attrs.new)
+        (attrs_from (is_seq_parent parent) kind attrs.old shape.now.attributes) }
+{
+    let mut left = shape.attributes.again();
+    while let Some(written) = left.next() {
+        with_attr(attrs, attr(alloc, parent, kind, &written)?);
+    }
+    Ok(())
+}
+
 /// The attributes of a node line of this shape, from left to right, for a node of this kind below a
 /// parent, None being for the root. The first fault is answered, its column counted in bytes from
 /// 1, up to the greatest `u32`.
@@ -69,10 +91,7 @@ pub fn shape_attrs(
         (attrs_from (is_seq_parent parent) kind no_attrs shape.now.attributes) }
 {
     let mut attrs = Attrs::none();
-    let mut left = shape.attributes.again();
-    while let Some(written) = left.next() {
-        with_attr(&mut attrs, attr(alloc, parent, kind, &written)?);
-    }
+    read_attrs(alloc, parent, kind, shape, &mut attrs)?;
     Ok(attrs)
 }
 

@@ -106,6 +106,17 @@ module _ (s : CellsState) (document : Document) (len : ℕ) (may : MayRebuild s 
       numbers : (n k h l : ℕ) → n ≡ h → l ≡ min n k → h ≤ l → h ≡ l
       numbers n k h l e f g = omega (arith, e, f, g)
 
+  -- the entries name no more of the log than there is
+  pub names_within : ReachedIsPast → logged (take len s.diary) ≤ length s.presentation.log
+  names_within law =
+      numbers (logged (take len s.diary)) (length s.presentation.log) may.at.heard (length part)
+      (subst (λ (d : List Entry). logged d ≡ may.at.heard) may.diary_is (law document part may.at.moment may.at reached).count)
+      (heard_is law)
+      (length-take (logged (take len s.diary)) s.presentation.log)
+    where
+      numbers : (n k h l : ℕ) → n ≡ h → h ≡ l → l ≡ min n k → n ≤ k
+      numbers n k h l e f g = omega (arith, e, f, g)
+
   at_it : ReachedIsPast → may.at ≡ record { moment = may.at.moment; heard = length part; diary = take len s.diary }
   at_it law =
       subst (λ (n : ℕ). may.at ≡ record { moment = may.at.moment; heard = n; diary = take len s.diary }) (heard_is law)

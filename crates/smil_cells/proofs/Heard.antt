@@ -35,7 +35,7 @@ module _ (document : Document) (log : List LogEntry) (now : ℕ) (diary : List E
       by_test true e = refl
       by_test false e = cc
 
-  hears : (f : Option DueChange) → ((x : DueChange) → f ≡ Some x → is_due (pos now) x.key ≡ false) → after_coming course at f ≡ Some then
+  pub hears : (f : Option DueChange) → ((x : DueChange) → f ≡ Some x → is_due (pos now) x.key ≡ false) → after_coming course at f ≡ Some then
   hears None none = told
   hears (Some x) none = by_test (is_due (pos now) x.key) (none x refl) (Some (record { moment = now; heard = length log; diary = diary ++ group (history_at course at) (pos now) x.key.serial x.change }))
     where

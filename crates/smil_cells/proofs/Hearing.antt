@@ -18,7 +18,7 @@ use Rattle.smil_model.specs.diary.Lawful.{IsLawful}
 use Rattle.smil_model.specs.diary.Logs.{is_log, is_logged_by, may_happen}
 use Rattle.smil_model.specs.interval.Current.{current_interval, in_table}
 use Rattle.smil_model.specs.happening.Keys.{DueChange, coming, first_coming, is_due}
-use Rattle.smil_model.specs.happening.Resolution.{Progress, Reaches, history_at}
+use Rattle.smil_model.specs.happening.Resolution.{Progress, Reaches, history_at, next_step}
 use Rattle.smil_model.specs.shown.Orders.{IsState, course_of}
 use Rattle.smil_laws.specs.Courses.{ReachedIsPast, ReachesFurther}
 use Rattle.smil_laws.specs.Cut.{NamesBelow}
@@ -31,7 +31,8 @@ use Rattle.smil_past.specs.Past as past_of
 use Rattle.smil_past.specs.Past.{MarkedHistory, IsPresent, MayHear, logged_entry, with_heard}
 use Rattle.smil_cells.specs.CellsState.{CellsState, IsFront, IsHeard, NothingBefore, WhereTold, fresh, fresh_since, with_logged}
 use Rattle.smil_cells.specs.Standings.{IsSound, standing_of}
-use Rattle.smil_cells.proofs.Heard.{reached_heard}
+use Rattle.smil_laws.specs.Agreement.{course_on}
+use Rattle.smil_cells.proofs.Heard.{hears, reached_heard}
 use Rattle.smil_rounds.proofs.Heeded.{log_with, logged_one}
 use Rattle.smil_cells.proofs.Longer.{same_mark, with_entry}
 use Rattle.smil_cells.proofs.OnWay.{untouched, is_fresh}
@@ -119,6 +120,16 @@ module _ (past : MarkedHistory) (m : ℤ) (entry : LogEntry) (fault : Option Boo
           one_longer : (a b : ℕ) → b ≡ a + 1 → suc a ≡ b
           one_longer a b e = omega (arith, e)
 
+      -- the next step of the course
+      pub step_heard : next_step (course_on past.document.nodes (past.log ++ entry ∷ []) now) (record { moment = now; heard = length past.log; diary = past.diary }) ≡ Some (record { moment = now; heard = length (past.log ++ entry ∷ []); diary = later.diary })
+      step_heard =
+          subst (λ (n : ℕ). next_step (course_on past.document.nodes (past.log ++ entry ∷ []) now) (record { moment = now; heard = length past.log; diary = past.diary }) ≡ Some (record { moment = now; heard = n; diary = later.diary })) (one_longer (length past.log) (length (past.log ++ entry ∷ [])) (length-append past.log (entry ∷ [])))
+          (subst (λ (z : ℤ). next_step (course_on past.document.nodes (past.log ++ entry ∷ []) now) (record { moment = now; heard = length past.log; diary = past.diary }) ≡ Some (record { moment = now; heard = suc (length past.log); diary = past.diary ++ logged_entry (length past.log) z ∷ [] })) (sym here)
+          (hears past.document past.log now past.diary entry here (first_coming (coming h' (pos now))) still))
+        where
+          one_longer : (a b : ℕ) → b ≡ a + 1 → suc a ≡ b
+          one_longer a b e = omega (arith, e)
+
       pub may_hear : ResolvedIsNear → MayHear past entry
       may_hear near = record {
         lawful =
@@ -166,11 +177,12 @@ module _ (past : MarkedHistory) (m : ℤ) (entry : LogEntry) (fault : Option Boo
         abbrev Came : MarkedHistory → Type 0
         Came x = IsHeard was entry (standing_of x m None mark others)
 
-        module _ (lens : (l : ℕ × ℕ) → past.marked ≡ Some l → (l.0 ≤ length past.log) × (l.1 ≤ length past.diary)) (two : (s : ℕ) → has mid s ≡ true → has others s ≡ true) where
+        module _ (lens : (l : ℕ × ℕ) → past.marked ≡ Some l → (l.0 ≤ length past.log) × (l.1 ≤ length past.diary)) (step : next_step (course_on past.document.nodes (past.log ++ entry ∷ []) now) (record { moment = now; heard = length past.log; diary = past.diary }) ≡ Some (record { moment = now; heard = length (past.log ++ entry ∷ []); diary = later.diary })) (two : (s : ℕ) → has mid s ≡ true → has others s ≡ true) where
           came : StayListed touched mid later → AreShown start mid later → StayBefore z start others later → Came later
           came one shown changed = record {
             presentation_is = refl;
             diary_is = refl;
+            step = step;
             sound = refl;
             marked = same_mark past later (with_entry past later entry refl) lens mark;
             more = λ e there q. two e.serial (one e there q);

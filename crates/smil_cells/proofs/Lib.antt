@@ -14,3 +14,6 @@ pub mod Showing
 pub mod Parting
 pub mod Ordering
 pub mod Begun
+pub mod Evaluating
+pub mod Touching
+pub mod Distinct

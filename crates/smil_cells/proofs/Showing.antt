@@ -15,7 +15,7 @@ use Rattle.smil_model.specs.diary.Diary.{History}
 use Rattle.smil_model.specs.reach.Reach.{subject_of}
 use Rattle.smil_laws.specs.Seen.{starts}
 use Rattle.smil_past.proofs.Listing.{known_place}
-use Rattle.smil_element.proofs.Above.{IsUp}
+use Rattle.smil_past.proofs.Above.{IsUp}
 use Rattle.smil_cells.specs.Shown.{AreWithinPut, StayIn, any_rests, any_shows, displaced_in, elements_at, may_rest, rests_under, sequenced, shows_from, shows_in}
 use Rattle.smil_cells.proofs.Ordering.{still_stands}
 use Rattle.std.proofs.lemmas.Bool.{and_parts, or_cases, or_left, or_parts, or_right}

@@ -204,6 +204,7 @@ pub record IsHeard (old : CellsState) (entry : LogEntry) (new : CellsState) : Ty
   pub presentation_is : new.presentation ≡ with_logged old.presentation entry
   pub diary_is :
       new.diary ≡ old.diary ++ logged_entry (length old.presentation.log) entry.moment ∷ []
+  pub step : next_step (course_of new.presentation) (progress_of old) ≡ Some (progress_of new)
   pub sound : new.fault ≡ None
   pub marked : new.marked ≡ old.marked
   pub more : StayTouched old new

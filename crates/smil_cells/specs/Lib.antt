@@ -1,3 +1,4 @@
 pub mod CellsState
 pub mod Standings
 pub mod Shown
+pub mod Evaluated

@@ -1,7 +1,8 @@
 -- Where a step shows besides its element, and elements by their places.
-use Rattle.std.specs.Prelude.{◌≡◌, ℕ, List, [], ◌∷◌, filter, Bool, true, false, ◌&&◌, ◌||◌, if◌then◌else◌, Option, Some, None, is_some, IsSome}
+use Rattle.std.specs.Prelude.{◌≡◌, ℕ, List, [], ◌∷◌, ◌++◌, drop, filter, length, Bool, true, false, ◌&&◌, ◌||◌, ◌⊎◌, if◌then◌else◌, Option, Some, None, is_some, IsSome}
 use Rattle.std.specs.List.{list_any}
 use Rattle.smil_model.specs.declared.diary.Entry.{Entry}
+use Rattle.smil_model.specs.declared.diary.LogEntry.{LogEntry}
 use Rattle.smil_model.specs.declared.diary.Step.{Step}
 use Rattle.smil_model.specs.declared.document.Fill.{Fill}
 use Rattle.smil_model.specs.declared.document.Fill.TheVariants.{Freeze}
@@ -13,9 +14,12 @@ use Rattle.smil_model.specs.document.Closure.{has}
 use Rattle.smil_model.specs.diary.Diary.{History}
 use Rattle.smil_model.specs.diary.Plays.{last_finished}
 use Rattle.smil_model.specs.reach.Reach.{subject_of}
+use Rattle.smil_model.specs.happening.Resolution.{Progress, next_step}
+use Rattle.smil_laws.specs.Agreement.{course_on}
 use Rattle.smil_laws.specs.Seen.{starts}
 use Rattle.smil_graph.specs.Tables.{takes_turns}
-use Rattle.smil_cells.specs.CellsState.{CellsState}
+use Rattle.smil_cells.specs.CellsState.{CellsState, progress_of}
+use Rattle.smil_cells.specs.Evaluated.{intervals_by}
 
 -- a seq or an excl, of whose children one plays at a time
 abbrev pub sequenced : Option Node → Option Node
@@ -89,7 +93,62 @@ AreWithinPut nodes x places =
     (e : Node) → node_at (elements nodes) e.serial ≡ Some e → is_within nodes x e.serial ≡ true
     → has (elements_at nodes places) e.serial ≡ true
 
+-- each element at the places was there before, or passes the test
+abbrev pub OnlyMore : List Node → List ℕ → List ℕ → (ℕ → Bool) → Type 0
+OnlyMore nodes old new test =
+    (e : Node) → node_at (elements nodes) e.serial ≡ Some e
+    → has (elements_at nodes new) e.serial ≡ true
+    → (has (elements_at nodes old) e.serial ≡ true) ⊎ (test e.serial ≡ true)
+
 -- the cells with the elements at these places as those that are touched
 abbrev pub touched_at : CellsState → List ℕ → CellsState
 touched_at s places =
     record s { touched = elements_at s.presentation.document.nodes places }
+
+-- ---- whose views entries may change
+
+-- the view of an element may change from one progress of a resolution to a later one:
+-- an entry between shows in it, or its interval is another
+abbrev pub MayChange : List Node → List LogEntry → Progress → Progress → ℕ → Type 0
+MayChange nodes log before after s =
+    (any_shows (record { nodes = nodes; log = log; diary = after.diary })
+    (drop (length before.diary) after.diary) s ≡ true)
+    ⊎ (intervals_by nodes log after s ≡ intervals_by nodes log before s → ⊥)
+
+-- what is touched besides what was has a view that the entries may have changed
+abbrev pub TouchesOnly : CellsState → CellsState → Type 0
+TouchesOnly old new =
+    (e : Node) → node_at (elements new.presentation.document.nodes) e.serial ≡ Some e
+    → has new.touched e.serial ≡ true
+    → (has old.touched e.serial ≡ true)
+    ⊎ MayChange new.presentation.document.nodes new.presentation.log (progress_of old)
+    (progress_of new) e.serial
+
+-- a step of the resolution by which a call appended entries
+pub record IsAppended (old new : CellsState) (before after : Progress) : Type 0 where
+  pub next :
+      next_step (course_on new.presentation.document.nodes new.presentation.log before.moment)
+      before
+      ≡ Some after
+  pub from : (more : List Entry) × (before.diary ≡ old.diary ++ more)
+  pub within : (more : List Entry) × (new.diary ≡ after.diary ++ more)
+
+-- a step of the call may have changed the view of an element
+abbrev pub MayHaveChanged : CellsState → CellsState → ℕ → Type 0
+MayHaveChanged old new s =
+    (before : Progress) × (after : Progress) × IsAppended old new before after
+    × MayChange new.presentation.document.nodes new.presentation.log before after s
+
+-- what is touched besides what was has a view that a step of the call may have changed
+abbrev pub TouchesOnlySince : CellsState → CellsState → Type 0
+TouchesOnlySince old new =
+    (e : Node) → node_at (elements new.presentation.document.nodes) e.serial ≡ Some e
+    → has new.touched e.serial ≡ true
+    → (has old.touched e.serial ≡ true) ⊎ MayHaveChanged old new e.serial
+
+-- each element that is touched has a view that a step of the call may have changed
+abbrev pub OnlyChanged : CellsState → CellsState → Type 0
+OnlyChanged old new =
+    (e : Node) → node_at (elements new.presentation.document.nodes) e.serial ≡ Some e
+    → has new.touched e.serial ≡ true
+    → MayHaveChanged old new e.serial

@@ -16,11 +16,12 @@ ghost use Rattle.smil_stretch.specs.Clocks.{AreClocksOf};
 ghost use Rattle.smil_past.specs.Past as past_of;
 ghost use Rattle.smil_element.specs.Parts.{coming_meant};
 ghost use Rattle.smil_cells.specs.CellsState.{GoesOn, IsFront, IsHeard, IsNext, IsPassed, IsRebuilt, IsRefusing, IsSettled, NothingBefore, first_at, MayRebuild, CellsState, StayTouched, WhereTold, any_interval, fresh_since, history_of, interval_at, reached_since, with_logged};
-ghost use Rattle.smil_cells.specs.Shown.{touched_at};
+ghost use Rattle.smil_cells.specs.Evaluated.{HasEvaluatedBehind, HasEvaluatedSince};
+ghost use Rattle.smil_cells.specs.Shown.{OnlyChanged, TouchesOnly, TouchesOnlySince, touched_at};
 ghost use Rattle.smil_cells.specs.Standings.{MayBegin, at_mark, begun};
 ghost use Rattle.smil_laws.specs.Same.{IsSame};
 
-use super::named::{heard_log, last_moment};
+use super::named::{heard_log, last_moment, logged_among};
 use super::order::{put_nodes, take_elements};
 use super::table::{Since, Table};
 use super::touched::touch;
@@ -142,13 +143,17 @@ impl<T: Table> Cells<T> {
             (steps.new - steps.old ≤ reached_since self.old self.new)) }
         ensures least { OnOk result (WhereTold T.counts
             (fresh_since self.old self.new ≤ steps.new - steps.old)) }
+        ensures evaluated { OnOk result (WhereTold T.counts
+            (HasEvaluatedSince self.old self.new (steps.new - steps.old))) }
+        ensures only { OnOk result (OnlyChanged self.old self.new) }
     {
         if let Some(fault) = self.fault {
             return Err(fault);
         }
         too_long_is_full();
         self.touched.cut_back(0);
-        let places = replace(&mut self.places, PlaceSet::new(self.alloc));
+        let mut places = replace(&mut self.places, PlaceSet::new(self.alloc));
+        places.clear();
         self.settle_through(until, places, steps)
     }
 
@@ -184,6 +189,9 @@ impl<T: Table> Cells<T> {
             (steps.new - steps.old ≤ reached_since self.old self.new)) }
         ensures least { OnOk result (WhereTold T.counts
             (fresh_since self.old self.new ≤ steps.new - steps.old)) }
+        ensures evaluated { OnOk result (WhereTold T.counts
+            (HasEvaluatedSince self.old self.new (steps.new - steps.old))) }
+        ensures only { OnOk result (OnlyChanged self.old self.new) }
     {
         if let Some(fault) = self.fault {
             return Err(fault);
@@ -191,6 +199,7 @@ impl<T: Table> Cells<T> {
         too_long_is_full();
         self.touched.cut_back(0);
         let mut places = replace(&mut self.places, PlaceSet::new(self.alloc));
+        places.clear();
         if let Err(fault) = self.take_in(entry, &mut places, steps) {
             return Err(fault);
         }
@@ -341,6 +350,30 @@ impl<T: Table> Cells<T> {
         Cells::over(self.alloc, past, moment, steps)
     }
 
+    /// The cells of this document with the first entries of this diary and what they name of this
+    /// log, at the moment of the last of these, or 0; unless memory runs out. The resolution with
+    /// that part of the log comes to these entries. No mark stands. The document is not copied, and
+    /// `Past::front` says how many of the entries are taken in again; each element is evaluated.
+    pub fn front<L: Ledger>(&mut self, len: usize, steps: &mut Steps<L>) -> Result<Self, AllocError>
+        requires { MayRebuild self.old self.old.presentation.document len }
+        ensures same { self.new ≡ self.old }
+        ensures rebuilt { IfOk result (IsRebuilt self.old self.old.presentation.document len) }
+        ensures counted { steps.old ≤ steps.new }
+        ensures most { WhereTold T.counts (steps.new - steps.old
+            ≤ length (elements self.old.presentation.document.nodes)) }
+        ensures least { IfOk result (λ cells. WhereTold T.counts
+            (any_interval self.old.presentation.document.nodes (interval_at cells)
+            ≤ steps.new - steps.old)) }
+    {
+        reached_is_past();
+        resolved_is_near();
+        self.past.possible();
+        let heard = logged_among(self.past.book(), len);
+        let past = self.past.front(heard, len)?;
+        let moment = last_moment(&past);
+        Cells::over(self.alloc, past, moment, steps)
+    }
+
     /// Makes these the cells that `rebuilt` gives, under its conditions. Where memory runs out all
     /// else is as before, and `settle` and `hear` answer `Memory` from then on.
     pub fn rebuild<L: Ledger>(
@@ -433,6 +466,9 @@ impl<T: Table> Cells<T> {
             (steps.new - steps.old ≤ reached_since self.old self.new)) }
         ensures least { OnOk result (WhereTold T.counts
             (fresh_since self.old self.new ≤ steps.new - steps.old)) }
+        ensures evaluated { OnOk result (WhereTold T.counts
+            (HasEvaluatedSince self.old self.new (steps.new - steps.old))) }
+        ensures only { OnOk result (TouchesOnlySince (touched_at self.old places) self.new) }
     {
         reaches_further();
         self.past.possible();
@@ -555,6 +591,10 @@ impl<T: Table> Cells<T> {
             (steps.new - steps.old ≤ reached_since self.old self.new)) }
         ensures least { OnOk result (WhereTold T.counts
             (fresh_since self.old self.new ≤ steps.new - steps.old)) }
+        ensures evaluated { OnOk result (WhereTold T.counts
+            (HasEvaluatedBehind self.old self.new (steps.new - steps.old))) }
+        ensures only { OnOk result (TouchesOnly (touched_at self.old places.old)
+            (touched_at self.new places.new)) }
     {
         log_may_be_longer();
         reaches_further();
@@ -600,6 +640,10 @@ impl<T: Table> Cells<T> {
             (steps.new - steps.old ≤ reached_since self.old self.new)) }
         ensures least { OnOk result (WhereTold T.counts
             (fresh_since self.old self.new ≤ steps.new - steps.old)) }
+        ensures evaluated { OnOk result (WhereTold T.counts
+            (HasEvaluatedBehind self.old self.new (steps.new - steps.old))) }
+        ensures only { OnOk result (TouchesOnly (touched_at self.old places.old)
+            (touched_at self.new places.new)) }
     {
         first_is_of_element();
         resolved_is_near();

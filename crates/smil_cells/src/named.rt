@@ -30,8 +30,8 @@ pub fn last_moment(past: &Past) -> i64
     }
 }
 
-// How many of the first entries of a diary name a log entry.
-fn logged_among(book: &Book, len: usize) -> usize
+/// How many of the first entries of a diary name a log entry. It takes no memory.
+pub fn logged_among(book: &Book, len: usize) -> usize
     requires { len ≤ length book.now }
     ensures { result ≡ logged (take len book.now) }
 {

@@ -1,20 +1,21 @@
 //! Places of nodes put into a set, and the elements there taken in document order.
 
-ghost use Rattle.std.specs.Prelude.{◌≡◌, ℕ, ◌++◌, ◌≤◌, ◌<◌, filter, true, OnOk, IsSome, slice_get};
+ghost use Rattle.std.specs.Prelude.{◌≡◌, ◌==◌, ◌⊎◌, ℕ, ◌++◌, ◌≤◌, ◌<◌, filter, true, OnOk, IsSome, slice_get};
 ghost use Rattle.smil_model.specs.document.Document.{elements, node_at, serials};
 ghost use Rattle.smil_model.specs.document.Closure.{has};
 ghost use Rattle.smil_model.specs.document.Edits.{place_in};
-ghost use Rattle.smil_cells.specs.Shown.{ArePut, StayIn, elements_at, nodes_of};
+ghost use Rattle.smil_cells.specs.Shown.{ArePut, OnlyMore, StayIn, elements_at, nodes_of};
 
 use smil_model::{PlaceSet, Serials};
 use smil_tree::Tree;
 use std::alloc::AllocError;
 
-/// Puts the places of the nodes that are listed in; a serial of no node is passed over. Refused
-/// where memory runs out.
+/// Puts the places of the nodes that are listed in, and no others; a serial of no node is passed
+/// over. Refused where memory runs out.
 pub fn put_nodes(tree: &Tree, nodes: &Serials, places: &mut PlaceSet) -> Result<(), AllocError>
     ensures more { OnOk result (StayIn places.old places.new) }
     ensures put { OnOk result (ArePut tree.now.nodes nodes.now places.new) }
+    ensures only { OnOk result (OnlyMore tree.now.nodes places.old places.new (has nodes.now)) }
 {
     for serial in nodes.slice() {
         put_node(tree, *serial, places)?;
@@ -27,6 +28,8 @@ fn put_node(tree: &Tree, serial: u32, places: &mut PlaceSet) -> Result<(), Alloc
     ensures more { OnOk result (StayIn places.old places.new) }
     ensures put { OnOk result (IsSome (node_at tree.now.nodes serial)
         → has places.new (place_in tree.now.nodes serial) ≡ true) }
+    ensures only { OnOk result (OnlyMore tree.now.nodes places.old places.new
+        (λ (s : ℕ). serial == s)) }
 {
     tree.valid();
     match tree.position(serial) {
@@ -35,11 +38,13 @@ fn put_node(tree: &Tree, serial: u32, places: &mut PlaceSet) -> Result<(), Alloc
     }
 }
 
-/// Puts the places from one on up to another in. Refused where memory runs out.
+/// Puts the places from one on up to another in, and no others. Refused where memory runs out.
 pub fn put_range(places: &mut PlaceSet, start: usize, end: usize) -> Result<(), AllocError>
     ensures more { OnOk result (StayIn places.old places.new) }
     ensures put { OnOk result ((place : ℕ) → start ≤ place → place < end
         → has places.new place ≡ true) }
+    ensures only { OnOk result ((place : ℕ) → has places.new place ≡ true
+        → (has places.old place ≡ true) ⊎ ((start ≤ place) × (place < end))) }
 {
     for place in start..end {
         places.put(place)?;

@@ -11,6 +11,7 @@ ghost use Rattle.smil_laws.specs.Same.{IsSame};
 ghost use Rattle.smil_element.specs.Parts.{coming_meant};
 ghost use Rattle.smil_past.specs.Past.{IsPresent, front, history_of};
 ghost use Rattle.smil_cells.specs.CellsState.{WhereTold, any_interval, fresh};
+ghost use Rattle.smil_cells.specs.Evaluated.{AreChanged, HasEvaluated};
 
 use smil_element::DueChange;
 use smil_interval::Steps;
@@ -60,7 +61,9 @@ pub trait Table: Drop {
             steps.new - steps.old)) };
 
     /// Takes in the entries from an index on, and appends to `changed` the elements whose intervals
-    /// they may have changed. Refused where memory runs out.
+    /// are others behind them, and no further ones. Refused where memory runs out. Where steps are
+    /// counted, each is of another element that the entries touch, or that reads one whose interval
+    /// became another.
     fn refresh<L: Ledger>(
         &mut self,
         since: &Since<'_>,
@@ -77,6 +80,9 @@ pub trait Table: Drop {
             → current_interval (history_of since.now.past.now) since.now.moment s
             ≡ current_interval (front since.now.past.now since.now.from) since.now.moment s) }
         ensures more { OnOk result ((s : ℕ) → has changed.old s ≡ true → has changed.new s ≡ true) }
+        ensures told { OnOk result (AreChanged changed.old changed.new
+            (current_interval (front since.now.past.now since.now.from) since.now.moment)
+            (current_interval (history_of since.now.past.now) since.now.moment)) }
         ensures marked { (h : History) (now : ℤ) → is_marked self.old h now
             → is_marked self.new h now }
         ensures has_mark { has_mark self.new ≡ has_mark self.old }
@@ -88,7 +94,13 @@ pub trait Table: Drop {
         ensures least { OnOk result (WhereTold counts (fresh since.now.past.now.document.nodes
             (current_interval (front since.now.past.now since.now.from) since.now.moment)
             (current_interval (history_of since.now.past.now) since.now.moment)
-            ≤ steps.new - steps.old)) };
+            ≤ steps.new - steps.old)) }
+        ensures evaluated { OnOk result (WhereTold counts (HasEvaluated
+            since.now.past.now.document.nodes since.now.past.now.log
+            (drop since.now.from since.now.past.now.diary)
+            (current_interval (front since.now.past.now since.now.from) since.now.moment)
+            (current_interval (history_of since.now.past.now) since.now.moment)
+            (steps.new - steps.old))) };
 
     /// The current interval of an element. It takes no memory.
     fn interval(&self, who: u32) -> Option<Interval>

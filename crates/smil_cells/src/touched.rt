@@ -1,15 +1,15 @@
 //! The elements in whose views entries show.
 
-ghost use Rattle.std.specs.Prelude.{◌≡◌, ℕ, ◌≤◌, ◌||◌, length, drop, true, Some, OnOk, IsSome, is_some};
+ghost use Rattle.std.specs.Prelude.{◌≡◌, ℕ, ◌≤◌, ◌&&◌, ◌||◌, length, drop, true, Some, OnOk, IsSome, is_some};
 ghost use Rattle.smil_model.specs.declared.document.Node.{Node as AnyNode};
-ghost use Rattle.smil_model.specs.document.Document.{elements, is_excl_kind, is_seq_kind, node_at, serial_of, time_children};
+ghost use Rattle.smil_model.specs.document.Document.{elements, is_excl_kind, is_seq_kind, is_within, node_at, serial_of, time_children};
 ghost use Rattle.smil_model.specs.document.Closure.{has};
 ghost use Rattle.smil_model.specs.diary.Lawful.{has_element};
 ghost use Rattle.smil_model.specs.diary.Plays.{last_finished};
 ghost use Rattle.smil_model.specs.reach.Reach.{subject_of};
 ghost use Rattle.smil_laws.specs.Seen.{starts as starts_in};
 ghost use Rattle.smil_past.specs.Past.{history_of};
-ghost use Rattle.smil_cells.specs.Shown.{AreWithinPut, StayIn, any_rests, any_shows, displaced_in, elements_at, is_freeze, may_rest, shows_from, shows_in};
+ghost use Rattle.smil_cells.specs.Shown.{AreWithinPut, OnlyMore, StayIn, any_rests, any_shows, displaced_in, elements_at, is_freeze, may_rest, shows_from, shows_in};
 
 use super::order::put_range;
 use smil_instances::subject;
@@ -19,15 +19,17 @@ use smil_tree::Tree;
 use std::alloc::AllocError;
 
 /// Puts the places of the elements whose views the entries from an index on may change, given the
-/// same intervals. Beside them places of other nodes may be put in. Refused where memory runs out.
-/// It takes a step for each place that is put in, and for a begin or a resume in a seq or an excl
-/// one for each child of that.
+/// same intervals, and those of no other elements. Refused where memory runs out. It takes a step
+/// for each place that is put in, and for a begin or a resume in a seq or an excl one for each child
+/// of that.
 pub fn touch(past: &Past, from: usize, touched: &mut PlaceSet) -> Result<(), AllocError>
     requires { from ≤ length past.now.diary }
     ensures more { OnOk result (StayIn touched.old touched.new) }
     ensures shown { OnOk result ((e : AnyNode) → node_at (elements past.now.document.nodes) e.serial
         ≡ Some e → any_shows (history_of past.now) (drop from past.now.diary) e.serial ≡ true
         → has (elements_at past.now.document.nodes touched.new) e.serial ≡ true) }
+    ensures only { OnOk result (OnlyMore past.now.document.nodes touched.old touched.new
+        (any_shows (history_of past.now) (drop from past.now.diary))) }
 {
     for entry in &past.book().entries()[from..] {
         touch_step(past, entry.step, touched)?;
@@ -42,6 +44,8 @@ fn touch_step(past: &Past, step: Step, touched: &mut PlaceSet) -> Result<(), All
         ≡ Some e
         → shows_from (history_of past.now) step (subject_of past.now.log step) e.serial ≡ true
         → has (elements_at past.now.document.nodes touched.new) e.serial ≡ true) }
+    ensures only { OnOk result (OnlyMore past.now.document.nodes touched.old touched.new
+        (shows_from (history_of past.now) step (subject_of past.now.log step))) }
 {
     match subject(past.log(), step) {
         Some(who) => touch_element(past, step, who, touched),
@@ -61,6 +65,8 @@ fn touch_element(
     ensures shown { OnOk result ((e : AnyNode) → node_at (elements past.now.document.nodes) e.serial
         ≡ Some e → shows_in (history_of past.now) step who e.serial ≡ true
         → has (elements_at past.now.document.nodes touched.new) e.serial ≡ true) }
+    ensures only { OnOk result (OnlyMore past.now.document.nodes touched.old touched.new
+        (shows_in (history_of past.now) step who)) }
 {
     let tree = past.tree();
     tree.valid();
@@ -81,6 +87,8 @@ fn touch_resting(past: &Past, parent: u32, touched: &mut PlaceSet) -> Result<(),
     ensures put { OnOk result ((e : AnyNode) → node_at (elements past.now.document.nodes) e.serial
         ≡ Some e → any_rests (history_of past.now) (time_children past.now.document.nodes parent)
         e.serial ≡ true → has (elements_at past.now.document.nodes touched.new) e.serial ≡ true) }
+    ensures only { OnOk result (OnlyMore past.now.document.nodes touched.old touched.new
+        (any_rests (history_of past.now) (time_children past.now.document.nodes parent))) }
 {
     past.possible();
     for child in past.tree().time_children(parent) {
@@ -96,6 +104,9 @@ fn touch_where_resting(past: &Past, who: u32, touched: &mut PlaceSet) -> Result<
     ensures put { OnOk result ((n : AnyNode) → node_at (elements past.now.document.nodes) who
         ≡ Some n → may_rest (history_of past.now) n ≡ true
         → AreWithinPut past.now.document.nodes who touched.new) }
+    ensures only { OnOk result ((n : AnyNode) → node_at (elements past.now.document.nodes) who
+        ≡ Some n → OnlyMore past.now.document.nodes touched.old touched.new
+        (λ (s : ℕ). may_rest (history_of past.now) n && is_within past.now.document.nodes who s)) }
 {
     if may_rest(past, who) {
         touch_within(past.tree(), who, touched)
@@ -166,6 +177,8 @@ fn touch_within(tree: &Tree, who: u32, touched: &mut PlaceSet) -> Result<(), All
     requires { IsSome (node_at tree.now.nodes who) }
     ensures more { OnOk result (StayIn touched.old touched.new) }
     ensures within { OnOk result (AreWithinPut tree.now.nodes who touched.new) }
+    ensures only { OnOk result (OnlyMore tree.now.nodes touched.old touched.new
+        (is_within tree.now.nodes who)) }
 {
     tree.valid();
     let (start, end) = tree.span(who);

@@ -13,7 +13,7 @@ use Rattle.smil_laws.proofs.Numbered.{ordered}
 use Rattle.smil_tree.proofs.Families.{chain_of}
 use Rattle.smil_instances.proofs.Targets.{element_in}
 use Rattle.smil_graph.proofs.Answered.{element_at, only_element}
-use Rattle.smil_element.proofs.Above.{parent_node}
+use Rattle.smil_past.proofs.Above.{parent_node}
 use Rattle.smil_instances.proofs.Sensitive.{serial_is}
 use Rattle.smil_model.specs.document.Defaults.{effective_fill}
 use Rattle.smil_model.specs.diary.Plays.{FinishedInterval, last_finished}

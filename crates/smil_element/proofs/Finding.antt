@@ -4,28 +4,13 @@ use Rattle.std.specs.Prelude.{cond, ◌==◌, ◌&&◌, find, is_some}
 use Rattle.std.proofs.lemmas.Bool.{eq-eqb}
 use Rattle.std.proofs.lemmas.Option.{same_Some}
 use Rattle.smil_model.specs.declared.document.Node.{Node}
-use Rattle.smil_model.specs.declared.diary.Entry.{Entry}
-use Rattle.smil_model.specs.document.Document.{has_serial, is_excl_kind, is_time_child, node_at, serial_of, serials, time_children}
+use Rattle.smil_model.specs.document.Document.{has_serial, is_excl_kind, is_time_child, node_at, serial_of}
 use Rattle.smil_model.specs.diary.Diary.{History}
-use Rattle.smil_model.specs.happening.Queue.{is_playing, is_playing_by, playing_child}
-use Rattle.smil_element.specs.Parts.{excl_in, left_excl, rival}
+use Rattle.smil_model.specs.happening.Queue.{is_playing, playing_child}
+use Rattle.smil_past.specs.Queues.{excl_in}
+use Rattle.smil_element.specs.Parts.{left_excl, rival}
 use Rattle.smil_model.specs.reach.Reach.{is_option}
 use Rattle.smil_laws.proofs.Lineages.{is_option-serial_of}
-
-playing_serial : (diary : List Entry) (ns : List Node) → find (is_playing_by diary) (serials ns) ≡ serial_of (find (is_playing diary) ns)
-playing_serial diary [] = refl
-playing_serial diary (n ∷ ns) = ap (λ o. cond (is_playing_by diary n.serial) (Some n.serial) o) (playing_serial diary ns) ∙ step (is_playing_by diary n.serial)
-  where
-    step : (t : Bool) → cond t (Some n.serial) (serial_of (find (is_playing diary) ns)) ≡ serial_of (cond t (Some n) (find (is_playing diary) ns))
-    step true = refl
-    step false = refl
-
--- the playing child by nodes and diary
-pub playing_is : (h : History) (nodes : List Node) (diary : List Entry) (excl : ℕ) → h.nodes ≡ nodes → h.diary ≡ diary → find (is_playing_by diary) (serials (time_children nodes excl)) ≡ serial_of (playing_child h excl)
-playing_is h nodes diary excl same past =
-    playing_serial diary (time_children nodes excl)
-    ∙ ap (λ (ns : List Node). serial_of (find (is_playing diary) (time_children ns excl))) (sym same)
-    ∙ ap (λ (ds : List Entry). serial_of (find (is_playing ds) (time_children h.nodes excl))) (sym past)
 
 -- ---- the excl of an element
 

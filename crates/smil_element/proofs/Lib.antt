@@ -1,4 +1,3 @@
-pub mod Above
 pub mod Appending
 pub mod Cutting
 pub mod Finding

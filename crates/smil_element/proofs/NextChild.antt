@@ -22,7 +22,7 @@ use Rattle.std.proofs.lemmas.Option.{same_Some}
 use Rattle.smil_laws.proofs.Aside.{each_drop, each_filter}
 use Rattle.smil_laws.proofs.Lineages.{swap_eqb}
 use Rattle.smil_laws.proofs.Members.{Differ, differ_all, differ_kept}
-use Rattle.smil_element.proofs.Above.{IsUp, parent_node}
+use Rattle.smil_past.proofs.Above.{IsUp, parent_node}
 use Rattle.smil_instances.proofs.Targets.{known_node}
 use Rattle.smil_element.specs.Displaced.{began_from, following, may_set_off}
 use Rattle.smil_element.proofs.Siblings.{sibling_is, IsKnown, any_all, any_none, any_place, is_child, known_all}

@@ -12,7 +12,7 @@ use Rattle.smil_model.specs.diary.Diary.{History}
 use Rattle.smil_model.specs.diary.Lawful.{has_element}
 use Rattle.smil_laws.proofs.Aside.{find_true}
 use Rattle.smil_graph.proofs.Answered.{element_at, only_element}
-use Rattle.smil_element.proofs.Above.{parent_node}
+use Rattle.smil_past.proofs.Above.{parent_node}
 use Rattle.smil_instances.proofs.Targets.{element_in, known_node, attrs_of, restart_told}
 use Rattle.smil_instances.proofs.Sensitive.{serial_is}
 use Rattle.smil_past.specs.declared.plays.facts.PlayFacts.{PlayFacts}

@@ -64,11 +64,6 @@ next_of h moment first =
 
 -- ---- of the time parent of an element
 
--- the time parent where it is an excl
-abbrev pub excl_in : Option Node → Option Node
-excl_in None = None
-excl_in (Some p) = if is_excl_kind p.kind then Some p else None
-
 -- the time parent where it is an excl in which the element plays
 abbrev pub left_excl : History → ℕ → Option Node → Option Node
 left_excl h who None = None

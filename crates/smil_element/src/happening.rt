@@ -25,8 +25,8 @@ use std::alloc::AllocError;
 /// repeat the cuts of the element's active descendants, later ones first, then its own entry, and
 /// where it played in an excl what the queue goes on with; of a begin in an excl what the class of
 /// the playing child decides. The moment is not before the last entry of the diary. It takes time
-/// for the nodes below the element, and for the time children of its excl. Refused where memory
-/// runs out, and then the list may hold a part of the group. SMIL 3.0, "The excl element".
+/// for the nodes below the element. Refused where memory runs out, and then the list may hold a
+/// part of the group. SMIL 3.0, "The excl element".
 pub fn group_of(
     parts: &Parts<'_>,
     who: u32,

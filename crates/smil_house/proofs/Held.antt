@@ -1,12 +1,12 @@
 -- The presentation of a name, and another in its place.
 use Rattle.std.proofs.Common.{◌≡◌, ℕ, Bool, List, length, refl, sym, ap, ◌∙◌}
-use Rattle.std.specs.Prelude.{Option, Some, slice_set, slice_index_or, bytes_eq}
+use Rattle.std.specs.Prelude.{Option, Some, option_and_then, slice_get, slice_set, slice_index_or, bytes_eq}
 use Rattle.std.proofs.lemmas.Option.{slice_get_read}
 use Rattle.std.proofs.lemmas.List.Quantifiers.{position-Some}
 use Rattle.smil_model.specs.declared.order.Order.{Order}
 use Rattle.smil_model.specs.shown.Orders.{Formats}
 use Rattle.smil_house.specs.declared.house.NamedPlayer.{NamedPlayer}
-use Rattle.smil_house.specs.House.{IsAt, IsReplaced, place_of}
+use Rattle.smil_house.specs.House.{IsAt, IsReplaced, named, place_of}
 
 -- what stands at the place that was found
 pub at_found : {P : Type 0} (name : List ℕ) (items held : List (NamedPlayer P)) (found : Option ℕ) (place : ℕ) (h : NamedPlayer P)
@@ -17,6 +17,11 @@ at_found name items held found place h same is some here =
       found = at;
       here = slice_get_read held (length held) place h refl (position-Some (λ x. bytes_eq x.name name) held place h at).0 (here ∙ ap (λ xs. slice_index_or xs place h) same);
     }
+
+-- it is what is held under the name
+pub named_at : {P : Type 0} {name : List ℕ} {held : List (NamedPlayer P)} {place : ℕ} {h : NamedPlayer P}
+    → IsAt name held place h → named name held ≡ Some h
+named_at {held = held} at = ap (option_and_then (slice_get held)) at.found ∙ at.here
 
 -- another player put in its place
 pub turned_to : {P : Type 0} (formats : P → Formats) (takes : P → Order → Bool) {name : List ℕ} (items : List (NamedPlayer P)) {held : List (NamedPlayer P)} {place : ℕ} {h : NamedPlayer P} (player : P)

@@ -13,11 +13,14 @@ use Rattle.smil_house.specs.declared.house.NamedPlayer.{NamedPlayer}
 abbrev pub place_of : {P : Type 0} → List ℕ → List (NamedPlayer P) → Option ℕ
 place_of name held = position (λ h. bytes_eq h.name name) held
 
+-- what is held under this name
+abbrev pub named : {P : Type 0} → List ℕ → List (NamedPlayer P) → Option (NamedPlayer P)
+named name held = option_and_then (slice_get held) (place_of name held)
+
 -- the moment of the presentation of this name
 abbrev pub moment_of : {P : Type 0} → (P → Presentation) → List ℕ → List (NamedPlayer P) → Option ℤ
 moment_of presentation name held =
-    option_map (λ h. pos (presentation h.player).now)
-    (option_and_then (slice_get held) (place_of name held))
+    option_map (λ h. pos (presentation h.player).now) (named name held)
 
 -- why no presentation may be loaded under this name
 abbrev pub load_refusal : {P : Type 0} → List ℕ → List (NamedPlayer P) → Result Unit Refusal

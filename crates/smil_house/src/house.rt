@@ -1,9 +1,10 @@
 //! Presentations under their names.
 
-ghost use Rattle.std.specs.Prelude.{◌≡◌, ℕ, ◌≤◌, ◌-◌, ◌++◌, ◌∷◌, [], drop, length, Result, Ok, Err, None, Some, OnOk, OnErr, IfOk, IfErr};
+ghost use Rattle.std.specs.Prelude.{◌≡◌, ℕ, ◌≤◌, ◌-◌, ◌++◌, ◌∷◌, [], drop, length, Result, Ok, Err, None, Some, OnOk, OnErr, IfOk, IfErr, IfSome};
 ghost use Rattle.smil_model.specs.declared.order.Refusal.TheVariants as refusal;
 ghost use Rattle.smil_model.specs.shown.Answers.{IsGiven};
-ghost use Rattle.smil_house.specs.House.{place_of, load_refusal, moment_of, without, AreKept, IsAnsweredBy, IsRefused, Takes};
+ghost use Rattle.smil_house.specs.House.{place_of, load_refusal, moment_of, named, without, AreKept, IsAnsweredBy, IsRefused, Takes};
+ghost use Rattle.smil_house.specs.Next.{NothingChangesBefore, next_in};
 
 use super::player::Player;
 use smil_interval::Steps;
@@ -127,6 +128,20 @@ impl<P: Player + Drop> House<P> {
     {
         match self.index_of(name) {
             Some(index) => Some(self.held[index].player.now()),
+            None => None,
+        }
+    }
+
+    /// The moment at which something comes next in the presentation of this name, in milliseconds
+    /// of document time, if no order comes before; None where nothing does, or there is none. An
+    /// advance to a moment before it changes nothing. It takes no memory.
+    pub fn next_due(&self, name: &[u8]) -> Option<i64>
+        ensures next { result ≡ next_in P.presentation name.now self.now }
+        ensures quiet { IfSome (named name.now self.now)
+            (λ held. NothingChangesBefore result (P.presentation held.player)) }
+    {
+        match self.index_of(name) {
+            Some(index) => self.held[index].player.next_due(),
             None => None,
         }
     }

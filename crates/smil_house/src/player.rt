@@ -4,6 +4,7 @@ ghost use Rattle.std.specs.Prelude.{◌≡◌, ℕ, ℤ, pos, OnOk, OnErr, IfOk,
 ghost use Rattle.smil_model.specs.shown.Orders.{Formats, Presentation};
 ghost use Rattle.smil_model.specs.shown.Answers.{IsGiven, Accepts, Refuses, AtLeast, AtMost, MayEvaluate};
 ghost use Rattle.smil_model.specs.declared.order.Order.{Order as GivenOrder};
+ghost use Rattle.smil_house.specs.Next.{NothingChangesBefore, next_of};
 
 use smil_interval::Steps;
 use smil_model::{Bytes, Order, Refusal};
@@ -26,6 +27,12 @@ pub trait Player {
     /// The present moment, in milliseconds of document time.
     fn now(&self) -> i64
         ensures { result ≡ pos (presentation self.now).now };
+
+    /// The moment at which something comes next, in milliseconds of document time, if no order
+    /// comes before; None where nothing does. An advance to a moment before it changes nothing.
+    fn next_due(&self) -> Option<i64>
+        ensures next { result ≡ next_of (presentation self.now) }
+        ensures quiet { NothingChangesBefore result (presentation self.now) };
 
     /// Answers an order: appends its text but for the `ok` line, and moves on to its new state; or
     /// gives the first refusal that holds, or `Memory`. After a refusal the presentation and the

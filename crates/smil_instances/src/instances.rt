@@ -29,12 +29,14 @@ use smil_stretch::Clocks;
 use smil_tree::Tree;
 use std::alloc::{AllocError, Global};
 use std::marker::Model;
+use std::rc::Rc;
 
 /// The instance times that a diary alone gives to each element of a document, kept item by item
 /// while entries are appended; seen as a row for each element, and what its items follow from.
 pub struct Instances {
     rows: Rows,
-    dependents: Dependents,
+    /// A copy has the same ones, since the document alone gives them.
+    dependents: Rc<Dependents>,
     /// Room for what an entry adds.
     adds: Vec<Add>,
     alloc: Global,
@@ -57,14 +59,14 @@ impl Model for Instances {
 
     ghost Value = { SettledInstances };
 
-    ghost view = { λ a. record { rows = a.rows; dependents = a.dependents } };
+    ghost view = { λ a. record { rows = a.rows; dependents = a.dependents.value } };
 }
 
 impl Duplicate for Instances {
     fn copy(&self) -> Result<Self, AllocError> {
         Ok(Instances {
             rows: self.rows.copy()?,
-            dependents: self.dependents.copy()?,
+            dependents: self.dependents.clone()?,
             adds: Vec::new(self.alloc),
             alloc: self.alloc,
         })
@@ -83,7 +85,7 @@ impl Instances {
         let dependents = Dependents::of(alloc, tree)?;
         Ok(Instances {
             rows: idle_rows(alloc, tree, &dependents)?,
-            dependents,
+            dependents: Rc::new(alloc, dependents)?,
             adds: Vec::new(alloc),
             alloc,
         })
@@ -107,7 +109,7 @@ impl Instances {
     {
         let arrival = Arrival {
             history: DocumentHistory { tree, log, book },
-            dependents: &self.dependents,
+            dependents: self.dependents.as_ref(),
             clocks,
         };
         take_in(&mut self.rows, &mut self.adds, &arrival)
@@ -135,7 +137,7 @@ impl Instances {
             ≡ settled_rows (history_with history.now history.now.book.now)) }
     {
         let DocumentHistory { tree, log, book } = *history;
-        let dependents = &self.dependents;
+        let dependents = self.dependents();
         let mut rows = idle_rows(self.alloc, tree, dependents)?;
         let mut adds = Vec::new(self.alloc);
         let mut front = Book::new(self.alloc);
@@ -155,6 +157,13 @@ impl Instances {
             clocks.follow(*entry);
         }
         Ok(rows)
+    }
+
+    /// What the items of the document follow from. It takes no memory.
+    pub fn dependents(&self) -> &Dependents
+        ensures { result.now ≡ self.now.dependents }
+    {
+        self.dependents.as_ref()
     }
 
     /// The begins of an element, in milliseconds on the clock of its time parent, in rising order;

@@ -29,3 +29,4 @@ pub mod States
 pub mod Through
 pub mod ToldAnswers
 pub mod TouchedViews
+pub mod Unchanged

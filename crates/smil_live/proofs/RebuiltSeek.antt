@@ -8,7 +8,6 @@ use Rattle.smil_model.specs.declared.diary.LogEntry.{LogEntry}
 use Rattle.smil_model.specs.declared.times.TheConstants.{HORIZON}
 use Rattle.smil_model.specs.diary.Clocks.{until}
 use Rattle.smil_model.specs.document.Document.{Document, elements}
-use Rattle.smil_model.specs.document.Valid.{IsValid}
 use Rattle.smil_model.specs.happening.Resolution.{diary_of}
 use Rattle.smil_model.specs.reach.Bounds.{reaches}
 use Rattle.smil_model.specs.shown.Orders.{IsState, Presentation, course_of, as_of}
@@ -38,29 +37,26 @@ until_same len book diary to m same there from first =
 pub not_beyond : (p : Presentation) (to m : ℤ) → IsState p → to ≤ℤ pos p.now → m ≡ to → m ≤ℤ HORIZON
 not_beyond p to m state back there = let most = within_horizon p state in omega (arith, ints, most, back, there)
 
--- settled cells of a presentation, a copy of its document, and how many entries are not later than a
--- moment
-pub record IsBack (s : CellsState) (d : Document) (to : ℤ) (len : ℕ) : Type 0 where
+-- settled cells of a presentation, and how many entries are not later than a moment
+pub record IsBack (s : CellsState) (to : ℤ) (len : ℕ) : Type 0 where
   pub state : IsState s.presentation
   pub replayed : IsReplayed s.presentation s
-  pub same : d ≡ s.presentation.document
   pub before : nat_abs to ≤ s.presentation.now
   pub within : len ≤ length s.diary
   pub first : take len s.diary ≡ until (pos (nat_abs to)) s.diary
 
-module _ {s : CellsState} {d : Document} {to : ℤ} {len : ℕ} (back : IsBack s d to len) where
-  part : IsPart d.nodes s.presentation.log (take len s.diary) (nat_abs to)
+module _ {s : CellsState} {to : ℤ} {len : ℕ} (back : IsBack s to len) where
+  part : IsPart s.presentation.document.nodes s.presentation.log (take len s.diary) (nat_abs to)
   part =
-      subst (λ (e : Document). IsPart e.nodes s.presentation.log (take len s.diary) (nat_abs to)) (sym back.same)
-      (subst (λ (l : List Entry). IsPart s.presentation.document.nodes s.presentation.log l (nat_abs to)) (sym back.first)
-      (part_until s.presentation.document s.presentation.log s.presentation.now (nat_abs to) s.diary back.state.document.numbered back.state.log back.state.logged back.replayed.settled back.before))
+      subst (λ (l : List Entry). IsPart s.presentation.document.nodes s.presentation.log l (nat_abs to)) (sym back.first)
+      (part_until s.presentation.document s.presentation.log s.presentation.now (nat_abs to) s.diary back.state.document.numbered back.state.log back.state.logged back.replayed.settled back.before)
 
-  pub may_go_back : MayRebuild s d len
-  may_go_back = may_rebuild s d len (nat_abs to) (subst (λ (e : Document). IsValid e) (sym back.same) back.state.document) back.within back.replayed.unmarked part
+  pub may_go_back : MayRebuild s s.presentation.document len
+  may_go_back = may_rebuild s s.presentation.document len (nat_abs to) back.state.document back.within back.replayed.unmarked part
 
-  module _ {t : CellsState} (rebuilt : IsRebuilt s d len t) where
+  module _ {t : CellsState} (rebuilt : IsRebuilt s s.presentation.document len t) where
     pub not_after : t.presentation.now ≤ nat_abs to
-    not_after = not_later s t d len (nat_abs to) rebuilt part
+    not_after = not_later s t s.presentation.document len (nat_abs to) rebuilt part
 
     log_is : t.presentation.log ≡ filter (λ (x : LogEntry). int_le x.moment (pos (nat_abs to))) s.presentation.log
     log_is =
@@ -70,7 +66,7 @@ module _ {s : CellsState} {d : Document} {to : ℤ} {len : ℕ} (back : IsBack s
 
     -- at that moment they are those of the presentation that is sought
     pub moved_back : as_of t.presentation (nat_abs to) ≡ sought_of s.presentation to
-    moved_back = by_parts t.presentation.document s.presentation.document t.presentation.log (filter (λ (x : LogEntry). int_le x.moment (pos (nat_abs to))) s.presentation.log) (rebuilt.document_is ∙ back.same) log_is
+    moved_back = by_parts t.presentation.document s.presentation.document t.presentation.log (filter (λ (x : LogEntry). int_le x.moment (pos (nat_abs to))) s.presentation.log) rebuilt.document_is log_is
       where
         by_parts : (a b : Document) (l m : List LogEntry) → a ≡ b → l ≡ m → ◌≡◌ {A = Presentation} (record { document = a; log = l; now = nat_abs to }) (record { document = b; log = m; now = nat_abs to })
         by_parts a b l m p q = cc
@@ -102,9 +98,8 @@ module _ {s : CellsState} {d : Document} {to : ℤ} {len : ℕ} (back : IsBack s
           ap (λ (l : List Entry). reaches t.presentation.document.nodes u.presentation.log (drop (length t.diary) l)) same_diary
           ∙ ap (reaches t.presentation.document.nodes u.presentation.log) (drop-length t.diary)
 
-      pub most_back : (counts : Bool) (a b c : ℕ) → a ≤ b → b ≤ c → WhereTold counts (b - a ≤ length (elements d.nodes)) → WhereTold counts (c - b ≤ reached_since t u) → WhereTold counts (c - a ≤ length (elements s.presentation.document.nodes))
+      pub most_back : (counts : Bool) (a b c : ℕ) → a ≤ b → b ≤ c → WhereTold counts (b - a ≤ length (elements s.presentation.document.nodes)) → WhereTold counts (c - b ≤ reached_since t u) → WhereTold counts (c - a ≤ length (elements s.presentation.document.nodes))
       most_back false a b c earlier later most more = tt
       most_back true a b c earlier later most more =
           let none = nothing_reached in
-          let all = ap (λ (e : Document). length (elements e.nodes)) back.same in
-          omega (arith, none, all, earlier, later, most, more)
+          omega (arith, none, earlier, later, most, more)

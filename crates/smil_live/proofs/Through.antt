@@ -101,7 +101,7 @@ module _ (p : Presentation) (d : List Entry) (has : HasDiary p d) where
       numbers : (a n k : ℕ) (x : ℤ) → suc k ≤ n → pos (a + n) ≤ℤ x → (pos (a + k) +ℤ pos 1) ≤ℤ x
       numbers a n k x l q = omega (arith, ints, l, q)
 
-  none_on_the_way : (n k : ℕ) → suc k ≤ n → IsQuiet p d (pos (p.now + n)) → changes_through p k ≡ []
+  pub none_on_the_way : (n k : ℕ) → suc k ≤ n → IsQuiet p d (pos (p.now + n)) → changes_through p k ≡ []
   none_on_the_way n zero l quiet = refl
   none_on_the_way n (suc k) l quiet =
       ap (λ (vs : List View). changes_through p k ++ at_moment (suc (p.now + k)) (changed vs (views_of (as_of p (suc (p.now + k)))))) (views_stay p d has k (sooner n k (omega (arith, l)) quiet))

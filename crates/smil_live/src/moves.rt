@@ -89,7 +89,7 @@ impl<T: Table> PresentationOver<T> {
         Ok(())
     }
 
-    // Moves to an earlier moment: the cells are made anew from the diary and the log up to it.
+    // Moves to an earlier moment, over cells with the entries of the diary and the log up to it.
     fn seek_back<L: Ledger>(
         &mut self,
         to: i64,
@@ -113,20 +113,21 @@ impl<T: Table> PresentationOver<T> {
         self.take_over(&mut cells, out)
     }
 
-    // The cells of an earlier moment, rebuilt from the diary up to it.
-    fn made_at<L: Ledger>(&self, to: i64, steps: &mut Steps<L>) -> Result<Cells<T>, Refusal>
+    // The cells of an earlier moment, with the entries of the diary up to it. All stays as it is.
+    fn made_at<L: Ledger>(&mut self, to: i64, steps: &mut Steps<L>) -> Result<Cells<T>, Refusal>
         requires clock { is_clock to ≡ true }
-        requires back { to <ℤ pos self.now.now }
-        ensures ok { IfOk result (IsReplayed (sought_of self.now to)) }
-        ensures refused { IfErr result (IsTooFull (sought_of self.now to)) }
-        ensures state { IsState (sought_of self.now to) }
+        requires back { to <ℤ pos self.old.now }
+        ensures same { self.new ≡ self.old }
+        ensures ok { IfOk result (IsReplayed (sought_of self.old to)) }
+        ensures refused { IfErr result (IsTooFull (sought_of self.old to)) }
+        ensures state { IsState (sought_of self.old to) }
         ensures counted { steps.old ≤ steps.new }
         ensures most { OnOk result (WhereTold T.counts
-            (steps.new - steps.old ≤ length_of (elements self.now.document.nodes))) }
+            (steps.new - steps.old ≤ length_of (elements self.old.document.nodes))) }
         ensures least { OnOk result (WhereTold T.counts
-            (least_loading (sought_of self.now to) ≤ steps.new - steps.old)) }
+            (least_loading (sought_of self.old to) ≤ steps.new - steps.old)) }
     {
-        cells_at(&self.viewer.cells, to, steps)
+        cells_at(&mut self.viewer.cells, to, steps)
     }
 
     /// An event happens on an element at the present moment. `NoElement` where there is no such

@@ -242,6 +242,10 @@ impl<T: Table> Player for PresentationOver<T> {
         self.viewer.cells.moment()
     }
 
+    fn next_due(&self) -> Option<i64> {
+        self.viewer.cells.next_due()
+    }
+
     fn answer<L: Ledger>(
         &mut self,
         order: &Order,

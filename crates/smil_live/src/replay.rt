@@ -58,31 +58,31 @@ pub fn replayed<T: Table, L: Ledger>(
     Ok(cells)
 }
 
-/// The cells of a moment from 0 to the present one, in milliseconds of document time, rebuilt from
-/// the entries of the diary up to it. The present cells are settled, answered no refusal and have
-/// no mark. `DiaryFull` where the diary would have too many entries, `Memory` where memory runs
-/// out.
+/// The cells of a moment from 0 to the present one, in milliseconds of document time, with the
+/// entries of the diary up to it. The present cells are settled, answered no refusal and have no
+/// mark; they stay as they are. `DiaryFull` where the diary would have too many entries, `Memory`
+/// where memory runs out.
 pub fn cells_at<T: Table, L: Ledger>(
-    cells: &Cells<T>,
+    cells: &mut Cells<T>,
     to: i64,
     steps: &mut Steps<L>,
 ) -> Result<Cells<T>, Refusal>
-    requires state { IsState cells.now.presentation }
-    requires replayed { IsReplayed cells.now.presentation cells.now }
+    requires state { IsState cells.old.presentation }
+    requires replayed { IsReplayed cells.old.presentation cells.old }
     requires from { pos 0 ≤ℤ to }
-    requires back { to ≤ℤ pos cells.now.presentation.now }
-    ensures ok { IfOk result (IsReplayed (sought_of cells.now.presentation to)) }
-    ensures refused { IfErr result (IsTooFull (sought_of cells.now.presentation to)) }
+    requires back { to ≤ℤ pos cells.old.presentation.now }
+    ensures same { cells.new ≡ cells.old }
+    ensures ok { IfOk result (IsReplayed (sought_of cells.old.presentation to)) }
+    ensures refused { IfErr result (IsTooFull (sought_of cells.old.presentation to)) }
     ensures counted { steps.old ≤ steps.new }
     ensures most { OnOk result (WhereTold T.counts
-        (steps.new - steps.old ≤ length (elements cells.now.presentation.document.nodes))) }
+        (steps.new - steps.old ≤ length (elements cells.old.presentation.document.nodes))) }
     ensures least { OnOk result (WhereTold T.counts
-        (least_loading (sought_of cells.now.presentation to) ≤ steps.new - steps.old)) }
+        (least_loading (sought_of cells.old.presentation to) ≤ steps.new - steps.old)) }
 {
     cells.past().possible();
-    let doc = cells.tree().doc_copy()?;
     let len = diary_until(cells.book(), to);
-    let mut earlier = cells.rebuilt(&doc, len, steps)?;
+    let mut earlier = cells.front(len, steps)?;
     earlier.settle(to, steps)?;
     Ok(earlier)
 }

@@ -90,6 +90,19 @@ least_of_both xs ys =
     ∙ fold-append earlier_key None (keys_in xs) (keys_in ys)
     ∙ from_sofar (least_in xs) (keys_in ys)
 
+-- ---- a slot in front of others
+
+pub least_beside : (slot : Option Key) (slots : List (Option Key)) → least_key (keys_in (slot ∷ slots)) ≡ earlier_of slot (least_key (keys_in slots))
+least_beside None slots = refl
+least_beside (Some k) slots = from_sofar (Some k) (keys_in slots)
+
+-- the least of two slots and others is that of the earlier of the two and the others
+pub least_beside_two : (a b : Option Key) (slots : List (Option Key)) → least_key (keys_in (a ∷ (b ∷ slots))) ≡ earlier_of (earlier_of a b) (least_key (keys_in slots))
+least_beside_two a b slots =
+    least_beside a (b ∷ slots)
+    ∙ ap (earlier_of a) (least_beside b slots)
+    ∙ sym (grouped a b (least_key (keys_in slots)))
+
 -- ---- the winner
 
 -- the slot with the least key of all

@@ -19,6 +19,7 @@ use Rattle.smil_model.specs.reach.Bounds.{reaches}
 use Rattle.smil_model.specs.reach.Reach.{reach}
 use Rattle.smil_laws.specs.Touched.{in_reaches}
 use Rattle.smil_laws.proofs.Members.{Differ, differ_all, differ_kept}
+use Rattle.smil_cells.proofs.Distinct.{serials_differ}
 
 -- a member by either of the two tests
 member_has : (xs : List ℕ) (s : ℕ) → is_member nat_eq xs s ≡ has xs s
@@ -48,19 +49,6 @@ within_reaches nodes log entries taken distinct reached =
     (at_most taken (flat_map (reach nodes log) entries) distinct (λ s q. reached_all nodes log entries s (reached s q)))
 
 -- ---- the elements that pass a test
-
-serials_differ : (ns : List Node) → Differ ns → IsDistinct nat_eq (serials ns)
-unfolding IsDistinct
-serials_differ [] d = tt
-serials_differ (n ∷ ns) d = (each ns d.0, serials_differ ns d.1)
-  where
-    each : (ms : List Node) → AllByRecursion (λ (m : Node). m.serial == n.serial ≡ false) ms → AllByRecursion (λ s. nat_eq n.serial s ≡ false) (serials ms)
-    each [] all = tt
-    each (m ∷ ms) all = (nat_eq_equiv.symm n.serial m.serial ∙ all.0, each ms all.1)
-
--- the serials of the elements of a document are distinct
-pub elements_distinct : (nodes : List Node) → document.IsDistinct nodes → IsDistinct nat_eq (serials (elements nodes))
-elements_distinct nodes distinct = serials_differ (elements nodes) (differ_kept is_element nodes (differ_all nodes distinct))
 
 -- a serial among those of the nodes that pass is that of a node that passes and is found
 passing_found : (test : Node → Bool) (ns : List Node) (s : ℕ) → Differ ns → has (serials (filter test ns)) s ≡ true → (e : Node) × (node_at ns e.serial ≡ Some e) × (test e ≡ true) × (e.serial ≡ s)

@@ -21,7 +21,8 @@ use Rattle.smil_rounds.specs.Round.{AreRowsEvaluated, StayUnchanged}
 use Rattle.smil_cells.specs.CellsState.{any_interval, fresh, is_same_interval}
 use Rattle.smil_rounds.proofs.Current.{all_current}
 use Rattle.smil_cells.proofs.OnWay.{same_self}
-use Rattle.smil_nodes.specs.Work.{AreChanged, AreDueOnce, AreSettled, IsCounted, IsDue}
+use Rattle.smil_cells.specs.Evaluated.{AreChanged, IsDue}
+use Rattle.smil_nodes.specs.Work.{AreDueOnce, AreSettled, IsCounted}
 use Rattle.smil_nodes.proofs.Counting.{passing_within, within_reaches}
 use Rattle.smil_nodes.proofs.Fixed.{current_intervals}
 use Rattle.smil_nodes.proofs.Ranked.{element_of}
@@ -84,15 +85,20 @@ module _ (h : History) (moment : ℤ) (nodes : List Node) (log : List LogEntry) 
   -- the elements that are due by the intervals at the end, each once
   pub evaluated_due : IsGraphOrder nodes order → (before after : ℕ → Option Interval) → ((s : ℕ) → interval_in first s ≡ before s) → ((s : ℕ) → interval_in rows s ≡ after s) → AreDueOnce h moment nodes log entries first rows before after (steps - start)
   evaluated_due ordered before after was is = record {
-    evaluated = counted.taken;
+    told = record {
+      evaluated = counted.taken;
+      as_many = let steps_are : steps ≡ start + length counted.taken = counted.steps_are in omega (arith, steps_are);
+      are = record {
+        distinct = counted.distinct;
+        are_elements = λ s q.
+            let ranked = counted.below s q in
+            let there = element_of nodes order ranked.rank ordered ranked.within in
+            ap (λ x. is_some (node_at (elements nodes) x)) (sym ranked.at ∙ sym there.1) ∙ ap is_some there.2;
+        due = λ s q. is_due s (counted.due s q);
+        others = λ s q. sym (is s) ∙ counted.others s q ∙ was s;
+      };
+    };
     made = counted.made;
-    as_many = let steps_are : steps ≡ start + length counted.taken = counted.steps_are in omega (arith, steps_are);
-    distinct = counted.distinct;
-    are_elements = λ s q.
-        let ranked = counted.below s q in
-        let there = element_of nodes order ranked.rank ordered ranked.within in
-        ap (λ x. is_some (node_at (elements nodes) x)) (sym ranked.at ∙ sym there.1) ∙ ap is_some there.2;
-    due = λ s q. is_due s (counted.due s q);
   }
     where
       is_due : (s : ℕ) → IsDue nodes log entries (interval_in first) (interval_in rows) s → IsDue nodes log entries before after s

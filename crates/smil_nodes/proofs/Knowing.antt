@@ -14,6 +14,7 @@ use Rattle.smil_model.specs.document.Closure.{has}
 use Rattle.smil_model.specs.diary.Diary.{History, up_to}
 use Rattle.smil_model.specs.interval.Current.{child_end}
 use Rattle.smil_laws.specs.Edited.{IsOrdered}
+use Rattle.smil_laws.specs.Touched.{is_touched_by}
 use Rattle.smil_laws.proofs.Rounds.{find-serial}
 use Rattle.smil_graph.specs.Graph.{IsGraphOrder}
 use Rattle.smil_element.specs.declared.endings.Ending.{Ending}
@@ -27,12 +28,11 @@ use Rattle.smil_rounds.proofs.Taking.{elements_differ}
 use Rattle.smil_nodes.specs.declared.endings.Home.{Home}
 use Rattle.smil_nodes.specs.Agenda.{IsLeastTaken}
 use Rattle.smil_nodes.specs.Endings.{KeptEnds, AreHomes, AreKnown, HasHome, IsEnded, KnowsEnds, anyone, home_at, named_end, named_ends, names_of, nobody, put_among, put_ending, put_home}
-use Rattle.smil_nodes.specs.Noted.{is_noted_by}
 use Rattle.smil_nodes.specs.Work.{IsBelow, IsUnlisted}
 use Rattle.smil_nodes.proofs.Among.{among_names, among_own, among_stays, names_in, set_own}
 use Rattle.smil_nodes.proofs.Family.{child_below, family, one_child, rank_of}
 use Rattle.smil_nodes.proofs.Housing.{home_each, ends_at}
-use Rattle.smil_nodes.proofs.Noted.{untouched, front_whole}
+use Rattle.smil_nodes.proofs.Noted.{front_whole}
 use Rattle.smil_nodes.proofs.Ranked.{found_place}
 use Rattle.smil_nodes.proofs.Staying.{all_done, end_by_interval, same_end}
 
@@ -260,14 +260,14 @@ children_unlisted nodes order old mid rank e distinct is lt at here implicit off
 
 -- ---- entries are taken in
 
-module _ (past : MarkedHistory) (from : ℕ) (order : List ℕ) (listed : ℕ → Bool) (ordered : IsOrdered past.document.nodes) (distinct : IsApart nat_eq order) (told : (s r : ℕ) → position (λ t. t == s) order ≡ Some r → listed r ≡ is_noted_by past.document.nodes past.log (drop from past.diary) s) where
+module _ (past : MarkedHistory) (from : ℕ) (order : List ℕ) (listed : ℕ → Bool) (ordered : IsOrdered past.document.nodes) (distinct : IsApart nat_eq order) (told : (s r : ℕ) → position (λ t. t == s) order ≡ Some r → listed r ≡ is_touched_by past.document.nodes past.log (drop from past.diary) s) where
   pub known_first : (given : ℕ → Option Interval) (kept : KeptEnds) → AreKnown (front past from) given anyone kept → AreKnown (history_of past) given (IsUnlisted order listed) kept
   known_first given kept are = record {
     homes = are.homes;
     names = are.names;
     right = λ p k e c at_e at_c is.
         let there = (family past.document.nodes e.serial k c ordered.distinct at_c).known in
-        let free = untouched past.document.nodes past.log c there (drop from past.diary) (sym (told c.serial is.rank (found_place c.serial order is.rank distinct is.within is.at)) ∙ is.free) in
+        let free = (sym (told c.serial is.rank (found_place c.serial order is.rank distinct is.within is.at)) ∙ is.free) in
         are.right p k e c at_e at_c tt
         ∙ ap Some
         (sym (same_end (front past from) (up_to (front past from) ((front past from).diary ++ drop from past.diary)) given e c

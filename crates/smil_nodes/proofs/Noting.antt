@@ -1,7 +1,7 @@
 -- The ranks of elements are listed one after another.
 use Rattle.std.proofs.Common.{◌≡◌, refl, sym, ◌∙◌, ap, subst, ℕ, suc, ◌+◌, ◌<◌, ◌≤◌, List, [], ◌∷◌, length, take, get_or, Option, Some, None, Bool, true, false, arith, inl, inr}
 use Rattle.std.specs.Prelude.{◌⊎◌, ◌==◌, ◌||◌, ◌&&◌, cond, filter, is_some, option_map, slice_get}
-use Rattle.std.specs.List.{list_any, position}
+use Rattle.std.specs.List.{AllByRecursion, list_any, position}
 use Rattle.std.proofs.lemmas.Bool.{and_from, and_parts, or_cases, or_left, or_right, eqb-true, eq-eqb}
 use Rattle.std.proofs.lemmas.List.{take_all}
 use Rattle.std.proofs.lemmas.List.Folds.{list_any_more}
@@ -13,14 +13,20 @@ use Rattle.smil_model.specs.declared.document.Node.{Node}
 use Rattle.smil_model.specs.document.Document.{elements, is_element, is_within, node_at, serials}
 use Rattle.smil_model.specs.document.Closure.{has}
 use Rattle.smil_model.specs.document.Valid.{IsDistinct}
-use Rattle.smil_model.specs.reach.Reach.{key_of, reads, subject_of}
-use Rattle.smil_laws.specs.Touched.{is_touched, is_touched_from}
+use Rattle.smil_model.specs.document.Defaults.{items_or}
+use Rattle.smil_model.specs.document.Dependencies.{all_items}
+use Rattle.smil_model.specs.declared.document.Attrs.{Attrs}
+use Rattle.smil_model.specs.reach.Reach.{down_key, is_key_item, key_of, reads, subject_of, waiters}
+use Rattle.smil_laws.specs.Touched.{is_touched, is_touched_by, is_touched_from, is_touched_through}
+use Rattle.smil_laws.proofs.Closures.{has_set}
+use Rattle.smil_laws.proofs.Members.{Differ, differ_all, differ_kept}
 use Rattle.smil_graph.specs.Graph.{IsGraphOrder, readers_of}
+use Rattle.smil_graph.proofs.Follow.{all_any}
 use Rattle.smil_graph.proofs.Answered.{element_at, only_element}
 use Rattle.smil_graph.proofs.Fed.{any_filter, any_there, there_any_item}
 use Rattle.smil_stretch.proofs.Above.{known_element}
 use Rattle.smil_past.proofs.Listing.{known_node}
-use Rattle.smil_nodes.specs.Noted.{AreNoted, is_noted_at, is_noted_by, is_noted_through, is_self_or_reader}
+use Rattle.smil_nodes.specs.Noted.{AreNoted, is_self_or_reader}
 use Rattle.smil_model.proofs.FirstPlaces.{position_cons}
 use Rattle.smil_graph.proofs.Rows.{assoc, right}
 use Rattle.smil_tree.proofs.Placings.{both_ways}
@@ -156,7 +162,7 @@ module _ (nodes : List Node) (order : List ℕ) (is : IsGraphOrder nodes order) 
   is_known : (s : ℕ) (b : Bool) → is_some (position (λ t. t == s) order) ≡ b → is_some (node_at (elements nodes) s) ≡ b
   is_known s b at = sym (ranked nodes order s is) ∙ at
 
-  known : (s r : ℕ) → position (λ t. t == s) order ≡ Some r → is_some (node_at (elements nodes) s) ≡ true
+  pub known : (s r : ℕ) → position (λ t. t == s) order ≡ Some r → is_some (node_at (elements nodes) s) ≡ true
   known s r at = is_known s true (ap is_some at)
 
   -- an element is a node
@@ -265,19 +271,147 @@ all_within nodes order is tree same distinct x old new at_x =
     noted)
     distinct
 
+-- ---- the elements that wait for a key
+
+-- of an element among others, whether it passes the test
+passes_one : (test : Node → Bool) (ns : List Node) (s : ℕ) (e : Node) → Differ ns → node_at ns s ≡ Some e → has (serials (filter test ns)) s ≡ test e
+passes_one test [] s e d at = cc
+passes_one test (n ∷ ns) s e d at = step (n.serial == s) refl at (passes_one test ns s e d.1)
+  where
+    absent : (ms : List Node) → AllByRecursion (λ (m : Node). m.serial == n.serial ≡ false) ms → n.serial ≡ s → has (serials (filter test ms)) s ≡ false
+    absent [] all same = refl
+    absent (m ∷ ms) all same = by_test (test m) (absent ms all.1 same)
+      where
+        by_test : (t : Bool) → has (serials (filter test ms)) s ≡ false → has (serials (cond t (m ∷ filter test ms) (filter test ms))) s ≡ false
+        by_test true rest = ap (λ b. b || has (serials (filter test ms)) s) (ap (λ k. m.serial == k) (sym same) ∙ all.0) ∙ rest
+        by_test false rest = rest
+
+    step : (b : Bool) → n.serial == s ≡ b → cond b (Some n) (node_at ns s) ≡ Some e → (node_at ns s ≡ Some e → has (serials (filter test ns)) s ≡ test e) → has (serials (cond (test n) (n ∷ filter test ns) (filter test ns))) s ≡ test e
+    step true q here rest = let one : n ≡ e = cc in by_test (test n) (ap test one)
+      where
+        by_test : (t : Bool) → t ≡ test e → has (serials (cond t (n ∷ filter test ns) (filter test ns))) s ≡ test e
+        by_test true r = or_left _ _ q ∙ r
+        by_test false r = absent ns d.0 (eqb-true n.serial s q) ∙ r
+    step false q here rest = by_test (test n)
+      where
+        by_test : (t : Bool) → has (serials (cond t (n ∷ filter test ns) (filter test ns))) s ≡ test e
+        by_test true = ap (λ b. b || has (serials (filter test ns)) s) q ∙ rest here
+        by_test false = rest here
+
+-- an element waits by its begins and its ends
+pub waits_by_items : (nodes : List Node) (key s : ℕ) (attrs : Attrs) → IsDistinct nodes → Some attrs ≡ option_map (λ (n : Node). n.attrs) (node_at nodes s) → is_some (node_at (elements nodes) s) ≡ true
+    → (list_any (is_key_item key) (items_or [] attrs.begin) || list_any (is_key_item key) (items_or [] attrs.«end»)) ≡ has (waiters nodes key) s
+waits_by_items nodes key s attrs distinct are known_s = by_node (node_at nodes s) refl are
+  where
+    waiting : Node → Bool
+    waiting e = list_any (is_key_item key) (all_items nodes e)
+
+    by_element : (n : Node) (t : Bool) → is_element n ≡ t → node_at nodes s ≡ Some n → node_at (elements nodes) s ≡ Some n
+    by_element n true t at = element_at nodes s distinct ∙ ap only_element at ∙ ap (λ b. cond b (Some n) None) t
+    by_element n false t at =
+        let none : node_at (elements nodes) s ≡ None = element_at nodes s distinct ∙ ap only_element at ∙ ap (λ b. cond b (Some n) None) t in
+        let never : false ≡ true = sym (ap is_some none) ∙ known_s in
+        cc
+
+    by_node : (o : Option Node) → node_at nodes s ≡ o → Some attrs ≡ option_map (λ (n : Node). n.attrs) o → (list_any (is_key_item key) (items_or [] attrs.begin) || list_any (is_key_item key) (items_or [] attrs.«end»)) ≡ has (waiters nodes key) s
+    by_node None at is = cc
+    by_node (Some n) at is =
+        let own : attrs ≡ n.attrs = cc in
+        ap (λ (a : Attrs). list_any (is_key_item key) (items_or [] a.begin) || list_any (is_key_item key) (items_or [] a.«end»)) own
+        ∙ sym (all_any nodes (is_key_item key) refl refl n)
+        ∙ sym (passes_one waiting (elements nodes) s n (differ_kept is_element nodes (differ_all nodes distinct)) (by_element n (is_element n) refl at))
+
+module _ (order : List ℕ) (nodes : List Node) (key : ℕ) where
+  -- one that waits is listed
+  pub waiting_noted : (serial rank : ℕ) (old new : List ℕ) → position (λ t. t == serial) order ≡ Some rank → has (waiters nodes key) serial ≡ true → ((r : ℕ) → has new r ≡ ((r == rank) || has old r)) → AreNoted order (λ s. (serial == s) && has (waiters nodes key) s) old new
+  waiting_noted serial rank old new at waits put =
+      noted_by order (λ s. serial == s) (λ s. (serial == s) && has (waiters nodes key) s) old new
+      (λ s r at_s. same s (serial == s) refl)
+      (one_noted order serial rank old new at put)
+    where
+      same : (s : ℕ) (t : Bool) → serial == s ≡ t → t ≡ (t && has (waiters nodes key) s)
+      same s true e = sym waits ∙ ap (has (waiters nodes key)) (eqb-true serial s e)
+      same s false e = refl
+
+  -- one that doesn't is passed over
+  pub waiting_passed : (serial : ℕ) (old : List ℕ) → has (waiters nodes key) serial ≡ false → AreNoted order (λ s. (serial == s) && has (waiters nodes key) s) old old
+  waiting_passed serial old waits =
+      none_noted order (λ s. (serial == s) && has (waiters nodes key) s) old
+      (λ s r at_s. none s (serial == s) refl)
+    where
+      none : (s : ℕ) (t : Bool) → serial == s ≡ t → (t && has (waiters nodes key) s) ≡ false
+      none s true e = ap (has (waiters nodes key)) (sym (eqb-true serial s e)) ∙ waits
+      none s false e = refl
+
+  -- and so is what has no rank
+  pub unranked_passed : (serial : ℕ) (old : List ℕ) → position (λ t. t == serial) order ≡ None → AreNoted order (λ s. (serial == s) && has (waiters nodes key) s) old old
+  unranked_passed serial old at =
+      none_noted order (λ s. (serial == s) && has (waiters nodes key) s) old
+      (λ s r at_s. none s r at_s (serial == s) refl)
+    where
+      none : (s r : ℕ) → position (λ t. t == s) order ≡ Some r → (t : Bool) → serial == s ≡ t → (t && has (waiters nodes key) s) ≡ false
+      none s r at_s true e =
+          let both : None ≡ Some r = sym at ∙ ap (λ k. position (λ t. t == k) order) (eqb-true serial s e) ∙ at_s in
+          cc
+      none s r at_s false e = refl
+
+  -- those of a list that wait
+  abbrev pub waits_among : List ℕ → ℕ → Bool
+  waits_among xs s = has xs s && has (waiters nodes key) s
+
+  pub none_waiting : (xs old : List ℕ) → AreNoted order (waits_among (take 0 xs)) old old
+  none_waiting xs old = none_noted order (waits_among (take 0 xs)) old (λ s r at. ap (λ ys. has ys s && has (waiters nodes key) s) (take_none xs))
+
+  pub more_waiting : (xs : List ℕ) (k : ℕ) (old now new : List ℕ) → k < length xs → AreNoted order (waits_among (take k xs)) old now → AreNoted order (λ s. (get_or xs k 0 == s) && has (waiters nodes key) s) now new → AreNoted order (waits_among (take (k + 1) xs)) old new
+  more_waiting xs k old now new l so_far one =
+      noted_by order (λ s. waits_among (take k xs) s || ((get_or xs k 0 == s) && has (waiters nodes key) s)) (waits_among (take (k + 1) xs)) old new
+      (λ s r at. apart (has (take k xs) s) (get_or xs k 0 == s) (has (waiters nodes key) s) ∙ ap (λ b. b && has (waiters nodes key) s) (sym (list_any_more (λ y. y == s) xs k 0 l)))
+      (noted_then order (waits_among (take k xs)) (λ s. (get_or xs k 0 == s) && has (waiters nodes key) s) old now new so_far one)
+    where
+      apart : (a b c : Bool) → ((a && c) || (b && c)) ≡ ((a || b) && c)
+      apart true b true = refl
+      apart true true false = refl
+      apart true false false = refl
+      apart false b c = refl
+
+  -- all that wait are in the reach of the key
+  pub all_waiting : (xs : List ℕ) (k : ℕ) (old new : List ℕ) → IsGraphOrder nodes order → xs ≡ down_key nodes key → length xs ≤ k → AreNoted order (waits_among (take k xs)) old new → AreNoted order (has (waiters nodes key)) old new
+  all_waiting xs k old new is reach most noted =
+      noted_by order (waits_among (take k xs)) (has (waiters nodes key)) old new
+      (λ s r at. ap (λ ys. has ys s && has (waiters nodes key) s) (take_all k xs most ∙ reach) ∙ within s r at (has (waiters nodes key) s) refl) noted
+    where
+      within : (s r : ℕ) → position (λ t. t == s) order ≡ Some r → (t : Bool) → has (waiters nodes key) s ≡ t → (has (down_key nodes key) s && t) ≡ t
+      within s r at true q = ap (λ b. b && true) (has_set (reads nodes) (serials (elements nodes)) (waiters nodes key) s (known_serial s (elements nodes) ∙ known nodes order is s r at) q)
+      within s r at false q = none (has (down_key nodes key) s)
+        where
+          none : (b : Bool) → (b && false) ≡ false
+          none true = refl
+          none false = refl
+
 -- ---- entries one after another
 
+-- whether an entry touches an element
+abbrev is_touched_at : List Node → List LogEntry → ℕ → Entry → Bool
+is_touched_at nodes log s y = is_touched_through nodes (key_of log y.step) (subject_of log y.step) s
+
+touched_any : (nodes : List Node) (log : List LogEntry) (entries : List Entry) (s : ℕ) → is_touched_by nodes log entries s ≡ list_any (is_touched_at nodes log s) entries
+touched_any nodes log [] s = refl
+touched_any nodes log (y ∷ ys) s = ap (λ b. is_touched_at nodes log s y || b) (touched_any nodes log ys s)
+
 module _ (order : List ℕ) (nodes : List Node) (log : List LogEntry) (entries : List Entry) where
-  pub no_entries : (old : List ℕ) → AreNoted order (is_noted_by nodes log (take 0 entries)) old old
-  no_entries old = none_noted order (is_noted_by nodes log (take 0 entries)) old (λ s r at. ap (list_any (is_noted_at nodes log s)) (take_none entries))
+  pub no_entries : (old : List ℕ) → AreNoted order (is_touched_by nodes log (take 0 entries)) old old
+  no_entries old = none_noted order (is_touched_by nodes log (take 0 entries)) old (λ s r at. ap (λ ys. is_touched_by nodes log ys s) (take_none entries))
 
-  pub more_entries : (k : ℕ) (d : Entry) (old now new : List ℕ) → k < length entries → AreNoted order (is_noted_by nodes log (take k entries)) old now → AreNoted order (is_noted_through nodes (key_of log (get_or entries k d).step) (subject_of log (get_or entries k d).step)) now new → AreNoted order (is_noted_by nodes log (take (k + 1) entries)) old new
+  pub more_entries : (k : ℕ) (d : Entry) (old now new : List ℕ) → k < length entries → AreNoted order (is_touched_by nodes log (take k entries)) old now → AreNoted order (is_touched_through nodes (key_of log (get_or entries k d).step) (subject_of log (get_or entries k d).step)) now new → AreNoted order (is_touched_by nodes log (take (k + 1) entries)) old new
   more_entries k d old now new within so_far one =
-      noted_by order (λ s. is_noted_by nodes log (take k entries) s || is_noted_at nodes log s (get_or entries k d)) (is_noted_by nodes log (take (k + 1) entries)) old new
-      (λ s r at. sym (list_any_more (is_noted_at nodes log s) entries k d within))
-      (noted_then order (is_noted_by nodes log (take k entries)) (is_noted_through nodes (key_of log (get_or entries k d).step) (subject_of log (get_or entries k d).step)) old now new so_far one)
+      noted_by order (λ s. is_touched_by nodes log (take k entries) s || is_touched_at nodes log s (get_or entries k d)) (is_touched_by nodes log (take (k + 1) entries)) old new
+      (λ s r at.
+      ap (λ b. b || is_touched_at nodes log s (get_or entries k d)) (touched_any nodes log (take k entries) s)
+      ∙ sym (list_any_more (is_touched_at nodes log s) entries k d within)
+      ∙ sym (touched_any nodes log (take (k + 1) entries) s))
+      (noted_then order (is_touched_by nodes log (take k entries)) (is_touched_through nodes (key_of log (get_or entries k d).step) (subject_of log (get_or entries k d).step)) old now new so_far one)
 
-  pub all_entries : (k : ℕ) (old new : List ℕ) → length entries ≤ k → AreNoted order (is_noted_by nodes log (take k entries)) old new → AreNoted order (is_noted_by nodes log entries) old new
+  pub all_entries : (k : ℕ) (old new : List ℕ) → length entries ≤ k → AreNoted order (is_touched_by nodes log (take k entries)) old new → AreNoted order (is_touched_by nodes log entries) old new
   all_entries k old new most noted =
-      noted_by order (is_noted_by nodes log (take k entries)) (is_noted_by nodes log entries) old new
-      (λ s r at. ap (list_any (is_noted_at nodes log s)) (take_all k entries most)) noted
+      noted_by order (is_touched_by nodes log (take k entries)) (is_touched_by nodes log entries) old new
+      (λ s r at. ap (λ ys. is_touched_by nodes log ys s) (take_all k entries most)) noted

@@ -1,10 +1,8 @@
 -- Ranks of the elements in an order: each element has one.
-use Rattle.std.proofs.Common.{◌≡◌, refl, sym, ◌∙◌, ap, subst, ℕ, zero, suc, ◌+◌, ◌<◌, List, [], ◌∷◌, length, get_or, Some, None, true, false, arith}
+use Rattle.std.proofs.Common.{◌≡◌, ◌∙◌, ap, subst, ℕ, zero, suc, ◌+◌, ◌<◌, List, [], ◌∷◌, length, get_or, Some, None, false, arith}
 use Rattle.std.specs.Prelude.{cond, not, nat_eq, nat_lt, ◌==◌}
-use Rattle.std.specs.List.{AllByRecursion, IsDistinct, position, position_or_len}
+use Rattle.std.specs.List.{IsDistinct, position, position_or_len}
 use Rattle.std.proofs.lemmas.Bool.{eq-eqb, lt-ltb}
-use Rattle.std.proofs.lemmas.Cmp.{nat_eq_equiv}
-use Rattle.std.proofs.lemmas.Map.Keys.{IsDistinct-IsPermutation}
 use Rattle.std.proofs.lemmas.List.{length-map}
 use Rattle.std.proofs.lemmas.List.Sorted.{length_permutation}
 use Rattle.smil_model.specs.declared.document.Node.{Node}
@@ -13,27 +11,9 @@ use Rattle.smil_laws.proofs.Rounds.{find-serial}
 use Rattle.smil_graph.specs.Graph.{IsGraphOrder}
 use Rattle.smil_rounds.proofs.Current.{ordered_element}
 use Rattle.smil_instances.proofs.Targets.{some_of}
+use Rattle.smil_cells.proofs.Distinct.{all_at}
 
 -- ---- lists of different numbers
-
-all_at : (P : ℕ → Type 0) (xs : List ℕ) (k : ℕ) → AllByRecursion P xs → k < length xs → P (get_or xs k 0)
-all_at P [] k all lt = absurd (omega (arith, lt))
-all_at P (x ∷ xs) zero all lt = all.0
-all_at P (x ∷ xs) (suc k) all lt = all_at P xs k all.1 (omega (arith, lt))
-
--- equal ones stand at one place
-pub one_place : (xs : List ℕ) (j k : ℕ) → IsDistinct nat_eq xs → j < length xs → k < length xs → get_or xs j 0 ≡ get_or xs k 0 → j ≡ k
-unfolding IsDistinct
-one_place [] j k distinct lt less same = absurd (omega (arith, lt))
-one_place (x ∷ xs) zero zero distinct lt less same = refl
-one_place (x ∷ xs) zero (suc k) distinct lt less same =
-    let never : false ≡ true = sym (all_at (λ y. nat_eq x y ≡ false) xs k distinct.0 (omega (arith, less))) ∙ eq-eqb x (get_or xs k 0) same in
-    cc
-one_place (x ∷ xs) (suc j) zero distinct lt less same =
-    let never : false ≡ true = sym (all_at (λ y. nat_eq x y ≡ false) xs j distinct.0 (omega (arith, lt))) ∙ eq-eqb x (get_or xs j 0) (sym same) in
-    cc
-one_place (x ∷ xs) (suc j) (suc k) distinct lt less same =
-    ap suc (one_place xs j k distinct.1 (omega (arith, lt)) (omega (arith, less)) same)
 
 first_place : (s : ℕ) (xs : List ℕ) (j : ℕ) → IsDistinct nat_eq xs → j < length xs → get_or xs j 0 ≡ s → position_or_len (λ x. x == s) xs ≡ j
 unfolding IsDistinct
@@ -50,11 +30,6 @@ pub found_place : (s : ℕ) (xs : List ℕ) (j : ℕ) → IsDistinct nat_eq xs �
 found_place s xs j distinct lt at =
     ap (λ n. cond (nat_lt n (length xs)) (Some n) None) (first_place s xs j distinct lt at)
     ∙ ap (λ t. cond t (Some j) None) (lt-ltb j (length xs) lt)
-
--- an order of different elements
-pub order_distinct : (nodes : List Node) (order : List ℕ) → IsDistinct nat_eq (serials (elements nodes)) → IsGraphOrder nodes order → IsDistinct nat_eq order
-order_distinct nodes order distinct is =
-    IsDistinct-IsPermutation nat_eq nat_eq_equiv.symm (serials (elements nodes)) order is.all distinct
 
 -- of as many as there are
 pub order_length : (nodes : List Node) (order : List ℕ) → IsGraphOrder nodes order → length order ≡ length (elements nodes)

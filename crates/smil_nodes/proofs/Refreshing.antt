@@ -5,13 +5,13 @@ use Rattle.std.specs.List.{IsDistinct, position}
 use Rattle.smil_model.specs.declared.document.Node.{Node}
 use Rattle.smil_model.specs.document.Closure.{has}
 use Rattle.smil_model.specs.document.Valid as valid
+use Rattle.smil_laws.specs.Touched.{is_touched_by}
 use Rattle.smil_graph.specs.Graph.{IsGraphOrder, OrderedNodes}
 use Rattle.smil_past.specs.Past.{MarkedHistory}
 use Rattle.smil_nodes.specs.Agenda.{IsLeastTaken}
-use Rattle.smil_nodes.specs.Noted.{AreNoted, NotesEntries, is_noted_by}
+use Rattle.smil_nodes.specs.Noted.{AreNoted, NotesEntries}
 use Rattle.smil_nodes.specs.Work.{is_later_reader}
-use Rattle.smil_nodes.proofs.Counting.{elements_distinct}
-use Rattle.smil_nodes.proofs.Ranked.{order_distinct}
+use Rattle.smil_cells.proofs.Distinct.{elements_distinct, order_distinct}
 
 -- the order of a graph of these nodes
 pub is_order : (graph : OrderedNodes) (nodes : List Node) (order : List ℕ) → graph.nodes ≡ nodes → IsGraphOrder graph.nodes order → IsGraphOrder nodes order
@@ -22,13 +22,13 @@ differ_in nodes order distinct is = order_distinct nodes order (elements_distinc
 
 -- what the entries have listed
 module _ (graph : OrderedNodes) (past : MarkedHistory) (from : ℕ) (old new order : List ℕ) (kept : order ≡ graph.order) (same : graph.nodes ≡ past.document.nodes) (none : old ≡ []) (notes : NotesEntries graph past from old new) where
-  noted : AreNoted order (is_noted_by past.document.nodes past.log (drop from past.diary)) [] new
+  noted : AreNoted order (is_touched_by past.document.nodes past.log (drop from past.diary)) [] new
   noted =
-      subst (λ o. AreNoted order (is_noted_by past.document.nodes past.log (drop from past.diary)) o new) none
-      (subst (λ ns. AreNoted order (is_noted_by ns past.log (drop from past.diary)) old new) same
-      (subst (λ o. AreNoted o (is_noted_by graph.nodes past.log (drop from past.diary)) old new) (sym kept) notes))
+      subst (λ o. AreNoted order (is_touched_by past.document.nodes past.log (drop from past.diary)) o new) none
+      (subst (λ ns. AreNoted order (is_touched_by ns past.log (drop from past.diary)) old new) same
+      (subst (λ o. AreNoted o (is_touched_by graph.nodes past.log (drop from past.diary)) old new) (sym kept) notes))
 
-  pub noted_told : (s r : ℕ) → position (λ t. t == s) order ≡ Some r → has new r ≡ is_noted_by past.document.nodes past.log (drop from past.diary) s
+  pub noted_told : (s r : ℕ) → position (λ t. t == s) order ≡ Some r → has new r ≡ is_touched_by past.document.nodes past.log (drop from past.diary) s
   noted_told s r at = noted.listed s r at
 
   pub noted_within : (r : ℕ) → has new r ≡ true → r < length order

@@ -1,8 +1,8 @@
 -- The slots of rows.
-use Rattle.std.proofs.Common.{◌≡◌, refl, ◌∙◌, ap, sym, ℕ, zero, suc, ◌+◌, ◌≤◌, List, [], ◌∷◌, ◌++◌, length, replicate, set, map, Option, Some, None, ℤ, arith}
+use Rattle.std.proofs.Common.{◌≡◌, refl, ◌∙◌, ap, sym, ℕ, suc, ◌+◌, ◌≤◌, List, [], ◌∷◌, ◌++◌, length, replicate, set, map, Option, Some, None, ℤ, arith}
 use Rattle.std.specs.Prelude.{option_map, slice_get}
 use Rattle.std.specs.FinSet as set_of
-use Rattle.std.proofs.lemmas.List.{length-map, map-append}
+use Rattle.std.proofs.lemmas.List.{length-map, map-append, map-set}
 use Rattle.smil_model.specs.declared.happening.Key.{Key}
 use Rattle.smil_model.specs.declared.limits.TheConstants.{NODES}
 use Rattle.smil_model.specs.declared.document.Node.{Node}
@@ -20,35 +20,22 @@ use Rattle.smil_rounds.proofs.First.{first_by_key, none_first}
 use Rattle.smil_rounds.proofs.Keyed.{key_of}
 use Rattle.smil_rounds.proofs.Taking.{elements_few}
 use Rattle.smil_rounds.specs.Current.{AreCurrent}
-use Rattle.smil_nodes.specs.Slots.{keys_in}
-use Rattle.smil_nodes.specs.Schedule.{slot_of, slots_of}
+use Rattle.smil_nodes.specs.Slots.{earlier_of, keys_in}
+use Rattle.smil_nodes.specs.Schedule.{key_of as own_key, slot_of, slots_of}
+use Rattle.smil_nodes.proofs.Best.{least_beside, least_beside_two}
 use Rattle.smil_nodes.proofs.Fixed.{plain_current}
 
-pub slots_length : (rows : List CurrentRow) → length (slots_of rows) ≡ length rows + length rows
-slots_length [] = omega arith
-slots_length (r ∷ rs) = omega (arith, slots_length rs)
+pub slots_length : (rows : List CurrentRow) → length (slots_of rows) ≡ length rows
+slots_length rows = length-map rows (λ (r : CurrentRow). slot_of r.comings)
 
--- a row put in its place, and its two slots
-pub slots_set : (rows : List CurrentRow) (k a b : ℕ) (row : CurrentRow) → a ≡ k + k → b ≡ suc a → set (set (slots_of rows) a (slot_of row.comings.moved)) b (slot_of row.comings.repeat) ≡ slots_of (set rows k row)
-slots_set [] k a b row p q = refl
-slots_set (r ∷ rs) zero zero zero row p q = absurd (omega (arith, q))
-slots_set (r ∷ rs) zero zero (suc zero) row p q = refl
-slots_set (r ∷ rs) zero zero (suc (suc b)) row p q = absurd (omega (arith, q))
-slots_set (r ∷ rs) zero (suc a) b row p q = absurd (omega (arith, p))
-slots_set (r ∷ rs) (suc k) zero b row p q = absurd (omega (arith, p))
-slots_set (r ∷ rs) (suc k) (suc zero) b row p q = absurd (omega (arith, p))
-slots_set (r ∷ rs) (suc k) (suc (suc a)) zero row p q = absurd (omega (arith, q))
-slots_set (r ∷ rs) (suc k) (suc (suc a)) (suc zero) row p q = absurd (omega (arith, q))
-slots_set (r ∷ rs) (suc k) (suc (suc a)) (suc (suc b)) row p q =
-    ap (λ slots. slot_of r.comings.moved ∷ (slot_of r.comings.repeat ∷ slots)) (slots_set rs k a b row (omega (arith, p)) (omega (arith, q)))
+-- a row put in its place, and its slot
+pub slots_set : (rows : List CurrentRow) (k : ℕ) (row : CurrentRow) → set (slots_of rows) k (slot_of row.comings) ≡ slots_of (set rows k row)
+slots_set rows k row = sym (map-set (λ (r : CurrentRow). slot_of r.comings) rows k row)
 
 -- rows of which nothing comes have empty slots
-pub slots_empty : (es : List Node) (n : ℕ) → n ≡ length (map empty_row es) + length (map empty_row es) → replicate n None ≡ slots_of (map empty_row es)
-slots_empty [] zero q = refl
-slots_empty [] (suc n) q = absurd (omega (arith, q))
-slots_empty (e ∷ es) zero q = absurd (omega (arith, q))
-slots_empty (e ∷ es) (suc zero) q = absurd (omega (arith, q))
-slots_empty (e ∷ es) (suc (suc n)) q = ap (λ slots. None ∷ (None ∷ slots)) (slots_empty es n (omega (arith, q)))
+pub slots_empty : (es : List Node) → replicate (length (map empty_row es)) None ≡ slots_of (map empty_row es)
+slots_empty [] = refl
+slots_empty (e ∷ es) = ap (λ slots. None ∷ slots) (slots_empty es)
 
 -- there are as few rows as elements
 pub rows_few : (nodes : List Node) (rows : List CurrentRow) → rows ≡ map empty_row (elements nodes) → length nodes ≤ NODES → length rows ≤ NODES
@@ -59,20 +46,35 @@ rows_few nodes rows are all =
 
 -- ---- the keys of what comes
 
-keys_of_two : (a b : Option DueChange) (slots : List (Option Key)) → keys_in (slot_of a ∷ (slot_of b ∷ slots)) ≡ map key_of (both a b) ++ keys_in slots
+-- the keys of all that comes of rows, each of them in a slot of its own
+pairs_of : List CurrentRow → List (Option Key)
+pairs_of [] = []
+pairs_of (r ∷ rs) = own_key r.comings.moved ∷ (own_key r.comings.repeat ∷ pairs_of rs)
+
+-- the earlier of two in one slot is as good as both
+least_of_pairs : (rows : List CurrentRow) → least_key (keys_in (slots_of rows)) ≡ least_key (keys_in (pairs_of rows))
+unfolding pairs_of
+least_of_pairs [] = refl
+least_of_pairs (r ∷ rs) =
+    least_beside (slot_of r.comings) (slots_of rs)
+    ∙ ap (earlier_of (slot_of r.comings)) (least_of_pairs rs)
+    ∙ sym (least_beside_two (own_key r.comings.moved) (own_key r.comings.repeat) (pairs_of rs))
+
+keys_of_two : (a b : Option DueChange) (slots : List (Option Key)) → keys_in (own_key a ∷ (own_key b ∷ slots)) ≡ map key_of (both a b) ++ keys_in slots
 keys_of_two None None slots = refl
 keys_of_two None (Some d) slots = refl
 keys_of_two (Some c) None slots = refl
 keys_of_two (Some c) (Some d) slots = refl
 
--- the slots of rows have the keys of all that comes, in document order
-pub keys_come : (h : History) (now : ℤ) (place : ℕ) (es : List Node) (rows : List CurrentRow) → HaveDueChanges h now place es (map (λ (r : CurrentRow). r.comings) rows) → keys_in (slots_of rows) ≡ map key_of (coming_from h (current_interval h now) now place es)
+-- these are the keys of all that comes, in document order
+keys_come : (h : History) (now : ℤ) (place : ℕ) (es : List Node) (rows : List CurrentRow) → HaveDueChanges h now place es (map (λ (r : CurrentRow). r.comings) rows) → keys_in (pairs_of rows) ≡ map key_of (coming_from h (current_interval h now) now place es)
+unfolding pairs_of
 keys_come h now place [] [] is = refl
 keys_come h now place [] (r ∷ rs) is = elim is [ ]
 keys_come h now place (e ∷ es) [] is = elim is [ ]
 keys_come h now place (e ∷ es) (r ∷ rs) is =
-    keys_of_two r.comings.moved r.comings.repeat (slots_of rs)
-    ∙ ap (λ cs. map key_of cs ++ keys_in (slots_of rs)) is.0
+    keys_of_two r.comings.moved r.comings.repeat (pairs_of rs)
+    ∙ ap (λ cs. map key_of cs ++ keys_in (pairs_of rs)) is.0
     ∙ ap (λ ks. map key_of (coming_of h (current_interval h now) now place e) ++ ks) (keys_come h now (suc place) es rs is.1)
     ∙ sym (map-append key_of (coming_of h (current_interval h now) now place e) (coming_from h (current_interval h now) now (suc place) es))
 
@@ -80,7 +82,7 @@ keys_come h now place (e ∷ es) (r ∷ rs) is =
 
 module _ (h : History) (now : ℤ) (rows : List CurrentRow) (slots : List (Option Key)) (are : AreCurrent rows h now) (slots_are : slots ≡ slots_of rows) where
   least_is : least_key (keys_in slots) ≡ least_key (keys h now)
-  least_is = ap (λ ks. least_key (keys_in ks)) slots_are ∙ ap least_key (keys_come h now 0 (elements h.nodes) rows are.comings_are)
+  least_is = ap (λ ks. least_key (keys_in ks)) slots_are ∙ least_of_pairs rows ∙ ap least_key (keys_come h now 0 (elements h.nodes) rows are.comings_are)
 
   pub nothing_comes : None ≡ least_key (keys_in slots) → None ≡ first_coming (coming h now)
   nothing_comes none = sym (none_first h now None (none ∙ least_is) refl)

@@ -8,6 +8,7 @@ use Rattle.smil_model.specs.interval.Current.{simple_of}
 use Rattle.smil_model.specs.happening.Keys.{coming_by}
 use Rattle.smil_laws.specs.Edited.{IsOrdered}
 use Rattle.smil_laws.specs.Touched.{GivesSame, in_reaches, is_touched_by}
+use Rattle.smil_laws.proofs.TouchedReached.{reaches_hold}
 use Rattle.smil_laws.proofs.TouchedStay.{leaves_untouched}
 use Rattle.smil_graph.specs.Graph.{IsGraphOrder}
 use Rattle.smil_past.specs.Past.{MarkedHistory, front, history_of}
@@ -16,13 +17,12 @@ use Rattle.smil_rounds.specs.Current.{AreCurrent, interval_in}
 use Rattle.smil_rounds.specs.Round.{IsRowOf}
 use Rattle.smil_rounds.proofs.Paired.{first_at, interval_at, there_at}
 use Rattle.smil_rounds.proofs.Taking.{elements_differ}
-use Rattle.smil_nodes.specs.Noted.{is_noted_by}
 use Rattle.smil_nodes.specs.Work.{AreSettled}
 use Rattle.smil_nodes.proofs.Fixed.{current_elements, row_of_current}
-use Rattle.smil_nodes.proofs.Noted.{noted_reached, untouched, front_whole}
+use Rattle.smil_nodes.proofs.Noted.{front_whole}
 use Rattle.smil_nodes.proofs.Ranked.{element_of, found_place}
 
-module _ (past : MarkedHistory) (from : ℕ) (now : ℤ) (order : List ℕ) (rows : List CurrentRow) (listed : ℕ → Bool) (ordered : IsOrdered past.document.nodes) (is : IsGraphOrder past.document.nodes order) (distinct : IsDistinct nat_eq order) (told : (s r : ℕ) → position (λ t. t == s) order ≡ Some r → listed r ≡ is_noted_by past.document.nodes past.log (drop from past.diary) s) where
+module _ (past : MarkedHistory) (from : ℕ) (now : ℤ) (order : List ℕ) (rows : List CurrentRow) (listed : ℕ → Bool) (ordered : IsOrdered past.document.nodes) (is : IsGraphOrder past.document.nodes order) (distinct : IsDistinct nat_eq order) (told : (s r : ℕ) → position (λ t. t == s) order ≡ Some r → listed r ≡ is_touched_by past.document.nodes past.log (drop from past.diary) s) where
   given_same : (e : Node) → node_at (elements past.document.nodes) e.serial ≡ Some e → is_touched_by past.document.nodes past.log (drop from past.diary) e.serial ≡ false → GivesSame (front past from) (history_of past) (interval_in rows) now e
   given_same e here free =
       subst (λ k. GivesSame (front past from) k (interval_in rows) now e) (front_whole past from)
@@ -46,7 +46,7 @@ module _ (past : MarkedHistory) (from : ℕ) (now : ℤ) (order : List ℕ) (row
     rows_are = λ rank place e row lt at off here got.
         let there = there_at (elements past.document.nodes) place e (elements_differ past.document.nodes ordered.distinct) here in
         let first = first_at (elements past.document.nodes) rows place e (elements_differ past.document.nodes ordered.distinct) (current_elements rows (front past from) now are) here in
-        let free = untouched past.document.nodes past.log e there (drop from past.diary) (sym (told e.serial rank (found_place e.serial order rank distinct lt at)) ∙ off) in
+        let free = (sym (told e.serial rank (found_place e.serial order rank distinct lt at)) ∙ off) in
         row_given place e row (given_same e there free) (interval_at e.serial rows place row first got)
         (row_of_current rows (front past from) now place e row ordered are here got);
   }
@@ -55,15 +55,15 @@ module _ (past : MarkedHistory) (from : ℕ) (now : ℤ) (order : List ℕ) (row
     there : (e : Node) × (e.serial ≡ get_or order rank 0) × (node_at (elements past.document.nodes) e.serial ≡ Some e)
     there = element_of past.document.nodes order rank is (within rank on)
 
-    own_noted : is_noted_by past.document.nodes past.log (drop from past.diary) (there.0).serial ≡ true
+    own_noted : is_touched_by past.document.nodes past.log (drop from past.diary) (there.0).serial ≡ true
     own_noted = sym (told (there.0).serial rank (found_place (there.0).serial order rank distinct (within rank on) (sym there.1))) ∙ on
 
     -- a listed rank is that of an element that the entries have listed
-    pub first_noted : is_noted_by past.document.nodes past.log (drop from past.diary) (get_or order rank 0) ≡ true
-    first_noted = ap (is_noted_by past.document.nodes past.log (drop from past.diary)) (sym there.1) ∙ own_noted
+    pub first_noted : is_touched_by past.document.nodes past.log (drop from past.diary) (get_or order rank 0) ≡ true
+    first_noted = ap (is_touched_by past.document.nodes past.log (drop from past.diary)) (sym there.1) ∙ own_noted
 
     -- and that is in one of the reaches
     pub first_reached : in_reaches past.document.nodes past.log (drop from past.diary) (get_or order rank 0) ≡ true
     first_reached =
         ap (in_reaches past.document.nodes past.log (drop from past.diary)) (sym there.1)
-        ∙ noted_reached past.document.nodes past.log there.0 there.2 (drop from past.diary) own_noted
+        ∙ (reaches_hold past.document.nodes past.log (drop from past.diary)).touched there.0 there.2 own_noted

@@ -1,14 +1,13 @@
 -- Which elements are listed for evaluation where entries touch them.
-use Rattle.std.specs.Prelude.{◌≡◌, ℕ, ◌<◌, List, drop, length, Bool, true, ◌&&◌, ◌||◌, ◌==◌, ◌⊎◌, Option, Some, None, is_some}
-use Rattle.std.specs.List.{list_any, position}
-use Rattle.smil_model.specs.declared.diary.Entry.{Entry}
+use Rattle.std.specs.Prelude.{◌≡◌, ℕ, ◌<◌, List, drop, length, Bool, true, ◌&&◌, ◌||◌, ◌==◌, ◌⊎◌, Some, is_some}
+use Rattle.std.specs.List.{position}
 use Rattle.smil_model.specs.declared.diary.LogEntry.{LogEntry}
 use Rattle.smil_model.specs.declared.diary.Step.{Step}
 use Rattle.smil_model.specs.declared.document.Node.{Node}
 use Rattle.smil_model.specs.document.Document.{elements, node_at}
 use Rattle.smil_model.specs.document.Closure.{has}
-use Rattle.smil_model.specs.reach.Reach.{down_key, key_of, reads, subject_of}
-use Rattle.smil_laws.specs.Touched.{is_touched_from}
+use Rattle.smil_model.specs.reach.Reach.{key_of, reads, subject_of}
+use Rattle.smil_laws.specs.Touched.{is_touched_by, is_touched_through}
 use Rattle.smil_graph.specs.Graph.{OrderedNodes}
 use Rattle.smil_past.specs.Past.{MarkedHistory}
 
@@ -16,31 +15,19 @@ use Rattle.smil_past.specs.Past.{MarkedHistory}
 abbrev pub is_self_or_reader : List Node → ℕ → ℕ → Bool
 is_self_or_reader nodes x s = is_some (node_at (elements nodes) x) && ((x == s) || reads nodes x s)
 
--- a press of a key has its whole reach listed, any other entry what it touches
-abbrev pub is_noted_through : List Node → Option ℕ → Option ℕ → ℕ → Bool
-is_noted_through nodes (Some key) on s = has (down_key nodes key) s
-is_noted_through nodes None on s = is_touched_from nodes on s
-
-abbrev pub is_noted_at : List Node → List LogEntry → ℕ → Entry → Bool
-is_noted_at nodes log s y = is_noted_through nodes (key_of log y.step) (subject_of log y.step) s
-
--- whether one of the entries has the element listed
-abbrev pub is_noted_by : List Node → List LogEntry → List Entry → ℕ → Bool
-is_noted_by nodes log entries s = list_any (is_noted_at nodes log s) entries
-
 -- of the elements in an order the ranks of those that pass a test are listed besides what was,
 -- and no other numbers
 pub record AreNoted (order : List ℕ) (test : ℕ → Bool) (old new : List ℕ) : Type 0 where
   pub listed : (s r : ℕ) → position (λ t. t == s) order ≡ Some r → has new r ≡ (has old r || test s)
   pub ranks : (r : ℕ) → has new r ≡ true → (has old r ≡ true) ⊎ (r < length order)
 
--- what a step has listed
+-- what a step touches is listed
 abbrev pub NotesStep : OrderedNodes → List LogEntry → Step → List ℕ → List ℕ → Type 0
 NotesStep graph log step old new =
     AreNoted graph.order
-    (is_noted_through graph.nodes (key_of log step) (subject_of log step)) old new
+    (is_touched_through graph.nodes (key_of log step) (subject_of log step)) old new
 
--- what the entries from a place on have listed
+-- what the entries from a place on touch is listed
 abbrev pub NotesEntries : OrderedNodes → MarkedHistory → ℕ → List ℕ → List ℕ → Type 0
 NotesEntries graph past from old new =
-    AreNoted graph.order (is_noted_by graph.nodes past.log (drop from past.diary)) old new
+    AreNoted graph.order (is_touched_by graph.nodes past.log (drop from past.diary)) old new

@@ -1,5 +1,5 @@
 -- A schedule: each element in document order, with its interval and what comes of it, and the slots
--- of the keys of all that comes.
+-- of the keys of what comes first of each.
 use Rattle.std.specs.Prelude.{◌≡◌, ◌≤◌, ℕ, zero, suc, nat_eq, ℤ, List, [], ◌∷◌, length, map, Option, option_map}
 use Rattle.std.specs.List.{IsDistinct}
 use Rattle.smil_model.specs.declared.happening.Key.{Key}
@@ -13,6 +13,7 @@ use Rattle.smil_element.specs.Parts.{coming_meant}
 use Rattle.smil_rounds.specs.declared.current_rows.CurrentRow.{CurrentRow}
 use Rattle.smil_rounds.specs.Current.{AreCurrent}
 use Rattle.smil_rounds.specs.Rows.{AreNear}
+use Rattle.smil_nodes.specs.Slots.{earlier_of}
 
 -- an interval, and what comes, in the row at an index; where there is none nothing changes
 abbrev pub row_put : List CurrentRow → ℕ → Option Interval → DueChanges → List CurrentRow
@@ -22,13 +23,16 @@ row_put (r ∷ rs) zero interval comings =
 row_put (r ∷ rs) (suc index) interval comings = r ∷ row_put rs index interval comings
 
 -- the key of what comes
-abbrev pub slot_of : Option DueChange → Option Key
-slot_of coming = option_map (λ (c : DueChange). c.key) coming
+abbrev pub key_of : Option DueChange → Option Key
+key_of coming = option_map (λ (c : DueChange). c.key) coming
 
--- two slots a row: that of its begin or end, and that of its repeat
+-- the key of what comes first of an element; of two that tie that of the begin or end
+abbrev pub slot_of : DueChanges → Option Key
+slot_of comings = earlier_of (key_of comings.moved) (key_of comings.repeat)
+
+-- a slot a row
 abbrev pub slots_of : List CurrentRow → List (Option Key)
-slots_of [] = []
-slots_of (r ∷ rs) = slot_of r.comings.moved ∷ (slot_of r.comings.repeat ∷ slots_of rs)
+slots_of rows = map (λ (r : CurrentRow). slot_of r.comings) rows
 
 -- the rows have near numbers, are of different elements and as few as those of a document, and the
 -- slots are theirs

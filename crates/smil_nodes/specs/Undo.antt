@@ -4,7 +4,7 @@ use Rattle.std.specs.List.{AllByRecursion, list_any}
 use Rattle.smil_laws.specs.Near.{IsIntervalNear}
 use Rattle.smil_rounds.specs.declared.current_rows.CurrentRow.{CurrentRow}
 use Rattle.smil_nodes.specs.declared.undo.Note.{Note}
-use Rattle.smil_nodes.specs.Endings.{KeptEnds, put_ending}
+use Rattle.smil_nodes.specs.Endings.{KeptEnds, ending_in, put_ending}
 use Rattle.smil_nodes.specs.Schedule.{row_put}
 
 -- the rows of the elements, and the ends of the time children of each
@@ -36,6 +36,15 @@ has_note notes index = list_any (λ (n : Note). n.index == index) notes
 abbrev pub AreMarked : List Bool → List Note → Type 0
 AreMarked marks notes =
     (index : ℕ) → slice_index_or marks index false ≡ true → has_note notes index ≡ true
+
+-- an element as it is: the index of its row, with the row, and its ending
+abbrev pub note_of : ℕ → CurrentRow → KeptEnds → Note
+note_of index row ends = record {
+  index = index;
+  interval = row.interval;
+  comings = row.comings;
+  ending = ending_in ends index;
+}
 
 -- a note is put behind the others, or none
 abbrev pub MayGrow : List Note → Note → List Note → Type 0

@@ -1,20 +1,20 @@
 -- Elements evaluated in their order, in which each has a rank; those with listed ranks are left.
-use Rattle.std.specs.Prelude.{◌≡◌, ℕ, ◌<◌, ◌≤◌, ◌+◌, zero, suc, ℤ, List, [], ◌∷◌, nat_lt, nat_eq, ◌==◌, Bool, true, false, ◌&&◌, ◌||◌, ◌⊎◌, Option, Some, slice_get, slice_index, length, is_some, if◌then◌else◌}
+use Rattle.std.specs.Prelude.{◌≡◌, ℕ, ◌<◌, ◌≤◌, ◌+◌, zero, suc, ℤ, List, [], ◌∷◌, nat_lt, nat_eq, ◌==◌, Bool, true, false, ◌&&◌, ◌||◌, Option, Some, slice_get, slice_index, length, if◌then◌else◌}
 use Rattle.std.specs.List.{IsDistinct, list_any, position}
 use Rattle.smil_model.specs.declared.diary.Entry.{Entry}
 use Rattle.smil_model.specs.declared.diary.LogEntry.{LogEntry}
 use Rattle.smil_model.specs.declared.interval.Interval.{Interval}
 use Rattle.smil_model.specs.declared.document.Node.{Node}
-use Rattle.smil_model.specs.document.Document.{elements, node_at}
+use Rattle.smil_model.specs.document.Document.{elements}
 use Rattle.smil_model.specs.document.Closure.{has}
 use Rattle.smil_model.specs.diary.Diary.{History}
-use Rattle.smil_model.specs.reach.Reach.{is_option, reads}
+use Rattle.smil_model.specs.reach.Reach.{is_option}
 use Rattle.smil_laws.specs.Touched.{in_reaches}
 use Rattle.smil_graph.specs.Graph.{OrderedNodes, readers_of}
 use Rattle.smil_rounds.specs.declared.current_rows.CurrentRow.{CurrentRow}
 use Rattle.smil_rounds.specs.Current.{interval_in}
 use Rattle.smil_rounds.specs.Round.{AreOfElements, IsRowEvaluated, IsRowOf}
-use Rattle.smil_nodes.specs.Noted.{is_noted_by}
+use Rattle.smil_cells.specs.Evaluated.{HasEvaluated, IsDue}
 
 -- whether the element has this rank, and it is above another
 abbrev pub has_rank_above : List ℕ → ℕ → ℕ → ℕ → Bool
@@ -65,14 +65,6 @@ pub record IsUnlisted (order : List ℕ) (listed : ℕ → Bool) (serial : ℕ) 
   pub at : slice_index order rank ≡ serial
   pub free : listed rank ≡ false
 
--- an element is due where the entries have it listed,
--- or where one that it reads has another interval behind them
-abbrev pub IsDue : List Node → List LogEntry → List Entry
-    → (ℕ → Option Interval) → (ℕ → Option Interval) → ℕ → Type 0
-IsDue nodes log entries before after s =
-    (is_noted_by nodes log entries s ≡ true)
-    ⊎ ((x : ℕ) × (reads nodes x s ≡ true) × (after x ≡ before x → ⊥))
-
 -- some elements were evaluated, one behind the other, the last one first in the list
 abbrev pub AreEvaluated : History → ℤ → List ℕ → List CurrentRow → List CurrentRow → Type 0
 AreEvaluated h now [] before after = after ≡ before
@@ -80,17 +72,12 @@ AreEvaluated h now (who ∷ earlier) before after =
     (rows : List CurrentRow) × AreEvaluated h now earlier before rows
     × IsRowEvaluated h now who rows after
 
--- the elements that were evaluated, in as many evaluations, are due, and none comes twice
+-- so many evaluations were made, of elements that are due, each once
 pub record AreDueOnce (h : History) (now : ℤ) (nodes : List Node) (log : List LogEntry)
     (entries : List Entry) (old new : List CurrentRow) (before after : ℕ → Option Interval)
     (evaluations : ℕ) : Type 0 where
-  pub evaluated : List ℕ
-  pub made : AreEvaluated h now evaluated old new
-  pub as_many : evaluations ≡ length evaluated
-  pub distinct : IsDistinct nat_eq evaluated
-  pub are_elements :
-      (s : ℕ) → has evaluated s ≡ true → is_some (node_at (elements nodes) s) ≡ true
-  pub due : (s : ℕ) → has evaluated s ≡ true → IsDue nodes log entries before after s
+  pub told : HasEvaluated nodes log entries before after evaluations
+  pub made : AreEvaluated h now told.evaluated old new
 
 -- each step is of another element that was taken; those that were, and those that are listed,
 -- are due and in the reaches of entries; the listed ranks are above those of the former
@@ -115,11 +102,6 @@ pub record IsCounted (h : History) (now : ℤ) (nodes : List Node) (log : List L
   pub listed_due :
       (rank : ℕ) → listed rank ≡ true
       → IsDue nodes log entries (interval_in before) (interval_in rows) (slice_index order rank)
-
--- what is told besides what was has another interval than before
-abbrev pub AreChanged : List ℕ → List ℕ → (ℕ → Option Interval) → (ℕ → Option Interval) → Type 0
-AreChanged old new before after =
-    (s : ℕ) → has new s ≡ true → (has old s ≡ true) ⊎ (after s ≡ before s → ⊥)
 
 -- how far the least listed rank is below a number of ranks, from a rank on; 0 where none is listed
 abbrev pub gap_from : (ℕ → Bool) → ℕ → ℕ → ℕ

@@ -1,6 +1,6 @@
 //! A tournament of keys.
 
-ghost use Rattle.std.specs.Prelude.{◌≡◌, ◌<◌, ◌≤◌, None, IfOk, length, replicate, slice_set};
+ghost use Rattle.std.specs.Prelude.{◌≡◌, ◌<◌, ◌≤◌, None, IfOk, if◌then◌else◌, length, replicate, slice_set};
 ghost use Rattle.smil_model.specs.Tournaments.{most_items};
 ghost use Rattle.smil_model.specs.happening.Keys.{least_key};
 ghost use Rattle.smil_nodes.specs.Slots.{earlier_of, keys_in};
@@ -30,8 +30,10 @@ impl Contender for Slot {
 
     // The slot with the earlier key of two.
     fn with(self, behind: Slot) -> Slot {
-        Slot {
-            key: earlier(self.key, behind.key),
+        if is_overtaken(self.key, behind.key) {
+            behind
+        } else {
+            self
         }
     }
 
@@ -95,19 +97,24 @@ impl DueTree {
     }
 }
 
-// The earlier of two keys that may each be absent; of two that tie the first.
-fn earlier(first: Option<Key>, second: Option<Key>) -> Option<Key>
+/// The earlier of two keys that may each be absent; of two that tie the first. It takes no memory.
+pub fn earlier(first: Option<Key>, second: Option<Key>) -> Option<Key>
     ensures { result ≡ earlier_of first second }
 {
+    if is_overtaken(first, second) {
+        second
+    } else {
+        first
+    }
+}
+
+// Whether of two keys that may each be absent the second is the earlier one.
+fn is_overtaken(first: Option<Key>, second: Option<Key>) -> bool
+    ensures { earlier_of first second ≡ (if result then second else first) }
+{
     match (first, second) {
-        (None, _) => second,
-        (_, None) => first,
-        (Some(one), Some(other)) => {
-            if comes_before(other, one) {
-                second
-            } else {
-                first
-            }
-        }
+        (None, _) => true,
+        (_, None) => false,
+        (Some(one), Some(other)) => comes_before(other, one),
     }
 }

@@ -16,7 +16,8 @@ ghost use Rattle.smil_rounds.specs.Current.{interval_in};
 ghost use Rattle.smil_nodes.specs.Endings.{AreKnown, IsEnded, KnowsEnds, ending_in, nobody, put_ending};
 ghost use Rattle.smil_nodes.specs.Marked.{GoesBack, IsUpToDate};
 ghost use Rattle.smil_nodes.specs.Schedule.{row_put};
-ghost use Rattle.smil_nodes.specs.Work.{AreChanged, AreDueOnce, HasSame};
+ghost use Rattle.smil_cells.specs.Evaluated.{AreChanged};
+ghost use Rattle.smil_nodes.specs.Work.{AreDueOnce, HasSame};
 
 use super::endings::Endings;
 use super::readers::put_readers;
@@ -37,7 +38,7 @@ use std::sync::ledger::Ledger;
 pub type LiveCells = Cells<LiveTable>;
 
 /// A table that evaluates, after a happening, the elements that it touches, after the press of a key
-/// those in the key's reach, and those that read an element whose interval changed. How many
+/// those that wait for it, and those that read an element whose interval changed. How many
 /// evaluations that takes at the most is a clause of `refresh`.
 pub struct LiveTable {
     schedule: Schedule,
@@ -99,9 +100,8 @@ impl Table for LiveTable {
         Ok(table)
     }
 
-    // Besides what the trait says: no element is told besides whose interval is as it was. The
-    // elements that are evaluated, none of them twice and each in one step, are due: the entries
-    // have it listed, or it reads one whose interval is another behind them than before.
+    // Besides what the trait says, the rows are those of before with the elements that are due
+    // evaluated one behind the other, each once and in one step.
     fn refresh<L: Ledger>(
         &mut self,
         since: &Since<'_>,
@@ -272,37 +272,32 @@ impl LiveTable {
         };
         let row = row_of(&element, &sources, &mut self.room, steps)?;
         let before = self.schedule.row(index).interval;
-        self.replace(index, row, ending_of(present.past, who, row.interval))?;
+        self.replace(index, &row, ending_of(present.past, who, row.interval))?;
         Ok(!is_same_interval(before, row.interval))
     }
 
     // Puts the interval of a row, and what comes by it, in the row at an index, and the ending of
     // its element; where a mark stands, what was there is noted. Nothing is done where all of that
     // is there already.
-    fn replace(&mut self, index: usize, row: CurrentRow, ending: Ending) -> Result<(), AllocError>
+    fn replace(&mut self, index: usize, row: &CurrentRow, ending: Ending) -> Result<(), AllocError>
         requires index { index < length self.old.schedule }
-        requires near { IfSome row.interval IsIntervalNear }
+        requires near { IfSome row.now.interval IsIntervalNear }
         ensures put { OnOk result (self.new.schedule
-            ≡ row_put self.old.schedule index row.interval row.comings) }
+            ≡ row_put self.old.schedule index row.now.interval row.now.comings) }
         ensures ended { OnOk result (self.new.endings
             ≡ put_ending self.old.endings index ending) }
         ensures back { GoesBack self.old self.new }
         ensures agenda { self.new.agenda ≡ self.old.agenda }
         ensures has_mark { self.new.has_mark ≡ self.old.has_mark }
     {
-        if self.is_there(index, &row, ending) {
+        if self.is_there(index, row, ending) {
             return Ok(());
         }
         if self.has_mark {
-            let before = self.schedule.row(index);
-            self.undo.note(Note {
-                index,
-                interval: before.interval,
-                comings: before.comings,
-                ending: self.endings.ending(index),
-            })?;
+            self.undo
+                .note(index, self.schedule.row(index), &self.endings)?;
         }
-        self.schedule.put(index, row.interval, row.comings);
+        self.schedule.put(index, row.interval, &row.comings);
         self.endings.put(index, ending);
         Ok(())
     }
@@ -313,8 +308,8 @@ impl LiveTable {
         ensures { result ≡ true → (slice_get self.now.schedule index ≡ Some row.now)
             × (ending ≡ ending_in self.now.endings index) }
     {
-        let before = self.schedule.row(index);
-        is_same_row(&before, row) && is_same_ending(self.endings.ending(index), ending)
+        is_same_row(self.schedule.row(index), row)
+            && is_same_ending(self.endings.ending(index), ending)
     }
 }
 
@@ -325,7 +320,7 @@ fn put_back(schedule: &mut Schedule, endings: &mut Endings, noted: Note)
     ensures ends { endings.new ≡ put_ending endings.old noted.index noted.ending }
 {
     if noted.index < schedule.rows().len() {
-        schedule.put(noted.index, noted.interval, noted.comings);
+        schedule.put(noted.index, noted.interval, &noted.comings);
     }
     endings.put(noted.index, noted.ending);
 }

@@ -6,9 +6,9 @@ ghost use Rattle.smil_model.specs.document.Document.{elements};
 ghost use Rattle.smil_laws.specs.Near.{IsIntervalNear};
 ghost use Rattle.smil_rounds.specs.declared.current_rows.CurrentRow.{CurrentRow as AnyRow};
 ghost use Rattle.smil_rounds.specs.Rows.{empty_row};
-ghost use Rattle.smil_nodes.specs.Schedule.{ComesFirst, row_put, slot_of};
+ghost use Rattle.smil_nodes.specs.Schedule.{ComesFirst, key_of as own_key, row_put, slot_of};
 
-use super::due_tree::DueTree;
+use super::due_tree::{DueTree, earlier};
 use smil_element::{DueChange, DueChanges, Intervals};
 use smil_model::{Duplicate, Interval, Key};
 use smil_rounds::current_rows::{CurrentRow, CurrentRows};
@@ -21,7 +21,7 @@ use std::marker::Model;
 /// the list of the rows.
 pub struct Schedule {
     known: CurrentRows,
-    /// Two slots a row: that of its begin or end, and that of its repeat.
+    /// A slot a row: the key of what comes first of it.
     due: DueTree,
 }
 
@@ -74,7 +74,7 @@ impl Schedule {
     {
         tree.valid();
         let known = CurrentRows::of(alloc, tree)?;
-        let due = DueTree::new(alloc, 2 * known.rows().len())?;
+        let due = DueTree::new(alloc, known.rows().len())?;
         Ok(Schedule { known, due })
     }
 
@@ -93,29 +93,28 @@ impl Schedule {
     }
 
     /// The row at an index. It takes no memory.
-    pub fn row(&self, index: usize) -> CurrentRow
+    pub fn row(&self, index: usize) -> &CurrentRow
         requires { index < length self.now }
-        ensures row { slice_get self.now index ≡ Some result }
-        ensures near { IfSome result.interval IsIntervalNear }
+        ensures row { slice_get self.now index ≡ Some result.now }
+        ensures near { IfSome result.now.interval IsIntervalNear }
     {
-        self.known.rows()[index]
+        &self.known.rows()[index]
     }
 
     /// Puts an interval, and what comes, in the row at an index. It takes no memory, and log n steps
     /// at most for n elements.
-    pub fn put(&mut self, index: usize, interval: Option<Interval>, comings: DueChanges)
+    pub fn put(&mut self, index: usize, interval: Option<Interval>, comings: &DueChanges)
         requires index { index < length self.old }
         requires near { IfSome interval IsIntervalNear }
-        ensures { self.new ≡ row_put self.old index interval comings }
+        ensures { self.new ≡ row_put self.old index interval comings.now }
     {
         let row = CurrentRow {
             serial: self.row(index).serial,
             interval,
-            comings,
+            comings: *comings,
         };
         self.known.put(index, row);
-        self.due.set(2 * index, key_of(comings.moved));
-        self.due.set(2 * index + 1, key_of(comings.repeat));
+        self.due.set(index, first_key(comings));
     }
 
     /// What comes first by the rows; where they are current, None exactly where nothing comes. It
@@ -127,9 +126,19 @@ impl Schedule {
     }
 }
 
-// The key of what comes, if something does.
-fn key_of(coming: Option<DueChange>) -> Option<Key>
-    ensures { result ≡ slot_of coming }
+// The key of what comes first, if something does; of two that tie that of the begin or end.
+fn first_key(comings: &DueChanges) -> Option<Key>
+    ensures { result ≡ slot_of comings.now }
 {
-    coming.map(|coming| coming.key)
+    earlier(key_of(&comings.moved), key_of(&comings.repeat))
+}
+
+// The key of what comes, if something does.
+fn key_of(coming: &Option<DueChange>) -> Option<Key>
+    ensures { result ≡ own_key coming.now }
+{
+    match coming {
+        Some(coming) => Some(coming.key),
+        None => None,
+    }
 }

@@ -2,10 +2,12 @@
 
 ghost use Rattle.std.specs.Prelude.{◌≡◌, [], ◌∷◌, ◌++◌, true, false, OnOk, IfOk, IfSome, MatchOption, slice_index_or, slice_set};
 ghost use Rattle.smil_laws.specs.Near.{IsIntervalNear};
-ghost use Rattle.smil_nodes.specs.Undo.{MayGrow, has_note};
+ghost use Rattle.smil_nodes.specs.Undo.{MayGrow, has_note, note_of};
 
+use super::endings::Endings;
 use smil_element::{DueChanges, Ending};
 use smil_model::Interval;
+use smil_rounds::current_rows::CurrentRow;
 use std::alloc::{AllocError, Global};
 use std::marker::Model;
 
@@ -54,17 +56,29 @@ impl Undo {
         })
     }
 
-    /// Notes an element before it changes, unless it is noted already. It takes memory for each
-    /// element once, and a fixed number of steps. Where memory runs out the element is not noted.
-    pub fn note(&mut self, noted: Note) -> Result<(), AllocError>
-        requires { IfSome noted.interval IsIntervalNear }
-        ensures grown { MayGrow self.old noted self.new }
-        ensures noted { OnOk result (has_note self.new noted.index ≡ true) }
+    /// Notes the element whose row has this index, and its ending, before it changes, unless it is
+    /// noted already. It takes memory for each element once, and a fixed number of steps. Where
+    /// memory runs out the element is not noted.
+    pub fn note(
+        &mut self,
+        index: usize,
+        row: &CurrentRow,
+        endings: &Endings,
+    ) -> Result<(), AllocError>
+        requires { IfSome row.now.interval IsIntervalNear }
+        ensures grown { MayGrow self.old (note_of index row.now endings.now) self.new }
+        ensures noted { OnOk result (has_note self.new index ≡ true) }
     {
-        if !mark_at(&self.marks, noted.index) {
-            self.notes.push(noted)?;
-            put_mark(&mut self.marks, noted.index, true);
+        if mark_at(&self.marks, index) {
+            return Ok(());
         }
+        self.notes.push(Note {
+            index,
+            interval: row.interval,
+            comings: row.comings,
+            ending: endings.ending(index),
+        })?;
+        put_mark(&mut self.marks, index, true);
         Ok(())
     }
 

@@ -1,6 +1,6 @@
 -- A node line's reading is that of its parts.
 use Rattle.std.proofs.Common.{◌≡◌, ℕ, true, false, eqb, ltb, leb, List, length, take, Some, Result, Ok, Err, refl, sym, subst, ap, ◌∙◌}
-use Rattle.std.specs.Prelude.{◌/◌, ◌%◌, IfOk}
+use Rattle.std.specs.Prelude.{◌/◌, ◌%◌, OnOk}
 use Rattle.std.specs.List.{prefix_len}
 use Rattle.std.proofs.lemmas.Bool.{or_parts}
 use Rattle.smil_model.specs.declared.limits.TheConstants.{DEPTH, LINE_BYTES}
@@ -14,6 +14,7 @@ use Rattle.smil_grammar.specs.Results.{◌>>=◌}
 use Rattle.smil_grammar.specs.Nodes.{Shape, is_space, kind_of_shape}
 use Rattle.smil_grammar.specs.Outlines.{Outline, refuse_if, in_line, is_misplaced, is_bad_serial, attrs_in, mixes, last_of, with_node, with_header, header_of, opens_saved, shape_in, node_within, shape_within, with_line}
 use Rattle.smil_grammar.specs.Gives.{GivesReading}
+use Rattle.smil_attrs.specs.Filled.{filled}
 use Rattle.smil_outline.specs.Steps.{text_of, kind_at, attrs_at, node_with, node_kept}
 
 -- steps in a row, up to the kind and behind it
@@ -98,12 +99,18 @@ module _ (outline : Outline) (spaces serial : ℕ) (shape : Shape) where
       (by_both kind h ∙ ap (behind_attrs kind) given ∙ kept outline (spaces / 2) (node_with outline.nodes serial (last_of above) kind attrs) ∙ ap (node_kept outline (spaces / 2)) (sym made))
 
 -- a node that isn't misplaced can stand beside the others
-pub stands_unmixed : (outline : Outline) (over : List (ℕ × Kind)) (kind : Kind) (r : Result Node Refusal) → is_misplaced outline over kind ≡ false → IfOk r (λ node. node.kind ≡ kind)
-    → IfOk r (λ node. mixes outline.nodes (last_of over) node.kind ≡ false)
-stands_unmixed outline over kind (Ok node) h same =
-    let unmixed : mixes outline.nodes (last_of over) kind ≡ false = (or_parts _ (mixes outline.nodes (last_of over) kind) h).1 in
-    subst (λ (k : Kind). mixes outline.nodes (last_of over) k ≡ false) (sym same) unmixed
-stands_unmixed outline over kind (Err e) h same = tt
+pub stands_unmixed : (outline : Outline) (over : List (ℕ × Kind)) (kind : Kind) → is_misplaced outline over kind ≡ false → mixes outline.nodes (last_of over) kind ≡ false
+stands_unmixed outline over kind h = (or_parts _ (mixes outline.nodes (last_of over) kind) h).1
+
+-- what is so in any case is so where a call was not refused
+pub where_not_refused : {P : Type 0} (r : Result (Unit {0}) Refusal) → P → OnOk r P
+where_not_refused (Ok done) h = h
+where_not_refused (Err e) h = tt
+
+-- what was filled is refused as the call was
+pub filled_refused : {A : Type 0} (r : Result (Unit {0}) Refusal) (value : A) (e : Refusal) → r ≡ Err e → filled r value ≡ Err e
+filled_refused (Ok done) value e h = absurd cc
+filled_refused (Err x) value e h = let same : x ≡ e = cc in ap Err same
 
 -- ---- a whole line
 

@@ -35,6 +35,15 @@ attrs_at outline spaces above kind shape = do
   placed ← refuse_if (is_misplaced outline above kind) refusal.BadPlace
   in_line spaces (attrs_in (last_of above) kind shape)
 
+-- the node of this serial and kind below this parent, with these attributes
+abbrev pub node_of : ℕ → Option (ℕ × Kind) → Kind → Attrs → Node
+node_of serial parent kind attrs = record {
+  serial = serial;
+  kind = kind;
+  parent = unwrap_or (option_map (λ (n : ℕ × Kind). n.0) parent) 0;
+  attrs = attrs;
+}
+
 -- the node with these attributes, within the limits of a document
 abbrev pub node_with : List Node → ℕ → Option (ℕ × Kind) → Kind → Attrs → Result Node Refusal
 node_with nodes serial parent kind attrs = do
@@ -42,12 +51,7 @@ node_with nodes serial parent kind attrs = do
   few ← refuse_if (nat_le NODES (length nodes)) refusal.TooManyElements
   light ← refuse_if
       (nat_lt REFERENCES (references nodes + references_among attrs)) refusal.TooManyReferences
-  Ok (record {
-    serial = serial;
-    kind = kind;
-    parent = unwrap_or (option_map (λ (n : ℕ × Kind). n.0) parent) 0;
-    attrs = attrs;
-  })
+  Ok (node_of serial parent kind attrs)
 
 -- the outline with the node of a line, where it has one
 abbrev pub node_kept : Outline → ℕ → Result Node Refusal → Result Outline Refusal

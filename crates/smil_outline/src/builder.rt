@@ -1,20 +1,23 @@
 //! Outlines, read line by line.
 
-ghost use Rattle.std.specs.Prelude.{◌≡◌, ◌≤◌, ◌<◌, ◌+◌, ◌/◌, ◌==◌, [], take, length, Option, Some, None, Ok, true, false, nat_lt, IfOk, IfErr, IfSome, OnOk, OnErr};
+ghost use Rattle.std.specs.Prelude.{ℕ, ◌≡◌, ◌≤◌, ◌<◌, ◌+◌, ◌/◌, ◌==◌, [], take, length, Option, Some, None, Ok, true, false, nat_lt, IfOk, IfErr, IfSome, OnOk, OnErr};
 ghost use Rattle.smil_model.specs.declared.limits.TheConstants.{NODES, REFERENCES};
+ghost use Rattle.smil_model.specs.declared.document.Kind.{Kind as KindText};
+ghost use Rattle.smil_model.specs.document.Edits.{no_attrs};
 ghost use Rattle.smil_grammar.specs.Nodes.{kind_of_shape};
+ghost use Rattle.smil_attrs.specs.Filled.{filled};
 ghost use Rattle.smil_model.specs.document.Limits.{limits};
 ghost use Rattle.smil_model.specs.document.Valid.{IsValid, references as all_references, references_among};
 ghost use Rattle.smil_grammar.specs.Outlines.{no_lines, with_line, with_header, header_of, opens_saved, shape_in, shape_within, version_of, is_bad_serial as is_bad_serial_in, is_misplaced as is_misplaced_in, ended, last_of, in_line, attrs_in, mixes as mixes_among};
 ghost use Rattle.smil_grammar.specs.Gives.{GivesReading};
 ghost use Rattle.smil_outline.specs.Gives.{GivesRefusal, GivesDocument};
 ghost use Rattle.smil_outline.specs.Branches.{serial_of, is_known, IsPlaced};
-ghost use Rattle.smil_outline.specs.Steps.{kind_at, attrs_at, node_with as node_with_attrs, node_kept, text_of, IsInLine};
+ghost use Rattle.smil_outline.specs.Steps.{kind_at, attrs_at, node_of, node_with as node_with_attrs, node_kept, text_of, IsInLine};
 
 use super::branch::Branch;
 use super::nodes::Nodes;
 use super::refusals::refused;
-use smil_attrs::{Shape, fits, read_header, shape_attrs, shape_kind};
+use smil_attrs::{Shape, fits, read_attrs, read_header, shape_kind};
 use smil_lexis::runs;
 use smil_lexis::texts::is;
 use smil_model::{Attrs, DEPTH, Doc, Kind, LINE_BYTES, NODES, Node, Refusal};
@@ -175,37 +178,48 @@ impl Builder {
             || self.mixes(depth, kind)
     }
 
-    // The attributes of a node line of this shape, below this parent.
+    // Reads the attributes of a node line of this shape, below this parent, where none were read.
     fn attrs_below(
         &self,
         spaces: usize,
         parent: Option<(u32, Kind)>,
         kind: Kind,
         shape: &Shape<'_>,
-    ) -> Result<Attrs, Refusal>
+        attrs: &mut Attrs,
+    ) -> Result<(), Refusal>
         requires short { spaces ≤ LINE_BYTES }
         requires near { IsInLine shape.now }
-        ensures reading { GivesReading result (in_line spaces (attrs_in parent kind shape.now)) }
+        requires bare { attrs.old ≡ no_attrs }
+        ensures reading { GivesReading (filled result attrs.new)
+            (in_line spaces (attrs_in parent kind shape.now)) }
     {
-        match shape_attrs(self.alloc, parent.map(|parent| parent.1), kind, shape) {
-            Ok(attrs) => Ok(attrs),
+        match read_attrs(
+            self.alloc,
+            parent.map(|parent| parent.1),
+            kind,
+            shape,
+            attrs,
+        ) {
+            Ok(()) => Ok(()),
             Err(fault) => Err(refused(spaces, fault)),
         }
     }
 
-    // The attributes of a node of this kind below this parent, where it may stand there.
+    // Reads the attributes of a node of this kind below this parent, where it may stand there.
     fn attrs(
         &self,
         spaces: usize,
         parent: Option<(u32, Kind)>,
         kind: Kind,
         shape: &Shape<'_>,
-    ) -> Result<Attrs, Refusal>
+        attrs: &mut Attrs,
+    ) -> Result<(), Refusal>
         requires short { spaces ≤ LINE_BYTES }
         requires inside { IsInLine shape.now }
         requires near { spaces / 2 ≤ length self.now.branch }
         requires parent { parent ≡ last_of (take (spaces / 2) self.now.branch) }
-        ensures reading { GivesReading result
+        requires bare { attrs.old ≡ no_attrs }
+        ensures reading { GivesReading (filled result attrs.new)
             (attrs_at self.now spaces (take (spaces / 2) self.now.branch) kind shape.now) }
         ensures placed { OnOk result (is_misplaced_in self.now (take (spaces / 2) self.now.branch)
             kind ≡ false) }
@@ -213,24 +227,17 @@ impl Builder {
         if self.is_misplaced(spaces / 2, parent, kind) {
             return Err(Refusal::BadPlace);
         }
-        self.attrs_below(spaces, parent, kind, shape)
+        self.attrs_below(spaces, parent, kind, shape, attrs)
     }
 
-    // The node with these attributes, within the limits of a document.
-    fn node(
-        &self,
-        serial: u32,
-        parent: Option<(u32, Kind)>,
-        kind: Kind,
-        attrs: Attrs,
-    ) -> Result<Node, Refusal>
-        ensures reading { result ≡ node_with_attrs self.now.nodes serial parent kind attrs }
-        ensures light { IfOk result (λ node. all_references self.now.nodes
-            + references_among node.attrs ≤ REFERENCES) }
-        ensures few { IfOk result (λ node. length self.now.nodes < NODES) }
-        ensures serial { IfOk result (λ node. node.serial ≡ serial) }
-        ensures parent { IfOk result (λ node. node.parent ≡ serial_of parent) }
-        ensures kind { IfOk result (λ node. node.kind ≡ kind) }
+    // Whether a document with one more node, which has these attributes, is within the limits.
+    fn limit(&self, attrs: &Attrs) -> Result<(), Refusal>
+        ensures reading { (serial : ℕ) (parent : Option (ℕ × KindText)) (kind : KindText)
+            → filled result (node_of serial parent kind attrs.now)
+            ≡ node_with_attrs self.now.nodes serial parent kind attrs.now }
+        ensures light { OnOk result (all_references self.now.nodes
+            + references_among attrs.now ≤ REFERENCES) }
+        ensures few { OnOk result (length self.now.nodes < NODES) }
     {
         if self.nodes.has_id(&attrs.id) {
             return Err(Refusal::DuplicateId);
@@ -238,39 +245,39 @@ impl Builder {
         if self.nodes.len() >= NODES {
             return Err(Refusal::TooManyElements);
         }
-        if !self.nodes.has_room(&attrs) {
+        if !self.nodes.has_room(attrs) {
             return Err(Refusal::TooManyReferences);
         }
-        Ok(Node {
-            serial,
-            kind,
-            parent: parent.map_or(0, |parent| parent.0),
-            attrs,
-        })
+        Ok(())
     }
 
-    // The node of a line of this shape.
-    fn line(&self, spaces: usize, serial: u32, shape: &Shape<'_>) -> Result<Node, Refusal>
+    // Reads a line of this shape into a node with its serial and no attributes.
+    fn line(&self, spaces: usize, shape: &Shape<'_>, node: &mut Node) -> Result<(), Refusal>
         requires short { spaces ≤ LINE_BYTES }
         requires inside { IsInLine shape.now }
-        ensures reading { GivesReading (node_kept self.now (spaces / 2) result)
-            (shape_within limits self.now spaces (Some (serial, shape.now))) }
+        requires bare { node.old.attrs ≡ no_attrs }
+        ensures reading { GivesReading
+            (node_kept self.now (spaces / 2) (filled result node.new))
+            (shape_within limits self.now spaces (Some (node.old.serial, shape.now))) }
         ensures near { OnOk result (spaces / 2 ≤ length self.now.branch) }
         ensures flat { OnOk result (spaces / 2 < DEPTH) }
-        ensures fresh { OnOk result (is_bad_serial_in self.now self.now.next serial ≡ false) }
-        ensures light { IfOk result (λ node. all_references self.now.nodes
-            + references_among node.attrs ≤ REFERENCES) }
-        ensures few { IfOk result (λ node. length self.now.nodes < NODES) }
-        ensures serial { IfOk result (λ node. node.serial ≡ serial) }
-        ensures parent { IfOk result (λ node. node.parent
+        ensures fresh { OnOk result
+            (is_bad_serial_in self.now self.now.next node.old.serial ≡ false) }
+        ensures light { OnOk result (all_references self.now.nodes
+            + references_among node.new.attrs ≤ REFERENCES) }
+        ensures few { OnOk result (length self.now.nodes < NODES) }
+        ensures serial { OnOk result (node.new.serial ≡ node.old.serial) }
+        ensures parent { OnOk result (node.new.parent
             ≡ serial_of (last_of (take (spaces / 2) self.now.branch))) }
-        ensures unmixed { IfOk result (λ node. mixes_among self.now.nodes
-            (last_of (take (spaces / 2) self.now.branch)) node.kind ≡ false) }
+        ensures unmixed { OnOk result (mixes_among self.now.nodes
+            (last_of (take (spaces / 2) self.now.branch)) node.new.kind ≡ false) }
     {
-        let kind = self.kind(spaces, serial, shape)?;
+        let kind = self.kind(spaces, node.serial, shape)?;
         let parent = self.branch.above(spaces / 2);
-        let attrs = self.attrs(spaces, parent, kind, shape)?;
-        self.node(serial, parent, kind, attrs)
+        self.attrs(spaces, parent, kind, shape, &mut node.attrs)?;
+        node.kind = kind;
+        node.parent = parent.map_or(0, |parent| parent.0);
+        self.limit(&node.attrs)
     }
 
     // Reads a header.
@@ -301,7 +308,13 @@ impl Builder {
         let Some((serial, shape)) = self.shape(text) else {
             return Err(Refusal::BadOutline);
         };
-        let node = self.line(spaces, serial, &shape)?;
+        let mut node = Node {
+            serial,
+            kind: Kind::Par,
+            parent: 0,
+            attrs: Attrs::none(),
+        };
+        self.line(spaces, &shape, &mut node)?;
         let kind = node.kind;
         if self.nodes.push(node).is_err() {
             return Err(Refusal::Memory);

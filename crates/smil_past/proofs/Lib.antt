@@ -16,10 +16,12 @@ pub mod Taking
 pub mod Law
 pub mod References
 pub mod Appended
-pub mod Copied
 pub mod Fronts
 pub mod Grown
 pub mod Seconds
 pub mod Lent
 pub mod Active
 pub mod Makeups
+pub mod Above
+pub mod Playing
+pub mod KeptFronts

@@ -20,18 +20,18 @@ use Rattle.smil_tree.specs.Outline.{parent_place}
 use Rattle.smil_stretch.proofs.Placed.{place, IsFound, found_at}
 use Rattle.smil_past.specs.Queues.{HasRoom, lines}
 
-module _ (f g : ℕ → QueueState) where
-  changed_there : (ns : List Node) (k : ℕ) (n : Node) → IsDistinct ns → slice_get ns k ≡ Some n → ((e : ℕ) → n.serial == e ≡ false → f e ≡ g e) → set (map (λ (m : Node). f m.serial) ns) k (g n.serial) ≡ map (λ (m : Node). g m.serial) ns
-  changed_there [] k n d at same = cc
-  changed_there (m ∷ ns) zero n d at same =
-      let one : m ≡ n = cc in
-      ap (λ (x : Node). g x.serial ∷ map (λ (y : Node). f y.serial) ns) (sym one)
-      ∙ ap (λ ls. g m.serial ∷ ls)
-      (map_all (λ (x : Node). x.serial == m.serial ≡ false) (λ (y : Node). f y.serial) (λ (y : Node). g y.serial) ns (differ_each m.serial ns d.0)
-      (λ (x : Node) q. same x.serial (ap (λ (y : Node). y.serial == x.serial) (sym one) ∙ swap_eqb x.serial m.serial q)))
-  changed_there (m ∷ ns) (suc k) n d at same =
-      ap (λ l. l ∷ set (map (λ (y : Node). f y.serial) ns) k (g n.serial)) (same m.serial (each_at (λ (x : Node). x.serial == m.serial ≡ false) ns k n (differ_each m.serial ns d.0) at))
-      ∙ ap (λ ls. g m.serial ∷ ls) (changed_there ns k n d.1 at same)
+-- another value at the place of one node
+pub changed_there : (f g : Node → QueueState) (ns : List Node) (k : ℕ) (n : Node) → IsDistinct ns → slice_get ns k ≡ Some n → ((m : Node) → n.serial == m.serial ≡ false → f m ≡ g m) → set (map f ns) k (g n) ≡ map g ns
+changed_there f g [] k n d at same = cc
+changed_there f g (m ∷ ns) zero n d at same =
+    let one : m ≡ n = cc in
+    ap (λ (x : Node). g x ∷ map f ns) (sym one)
+    ∙ ap (λ ls. g m ∷ ls)
+    (map_all (λ (x : Node). x.serial == m.serial ≡ false) f g ns (differ_each m.serial ns d.0)
+    (λ (x : Node) q. same x (ap (λ (y : Node). y.serial == x.serial) (sym one) ∙ swap_eqb x.serial m.serial q)))
+changed_there f g (m ∷ ns) (suc k) n d at same =
+    ap (λ l. l ∷ set (map f ns) k (g n)) (same m (each_at (λ (x : Node). x.serial == m.serial ≡ false) ns k n (differ_each m.serial ns d.0) at))
+    ∙ ap (λ ls. g m ∷ ls) (changed_there f g ns k n d.1 at same)
 
 -- the node at the place of a serial
 pub node_there : (ns : List Node) (k s : ℕ) → Some k ≡ position (λ (n : Node). n.serial == s) ns → IsFound ns s k
@@ -79,7 +79,7 @@ module _ (nodes : List Node) (queue after : ℕ → List ℕ) where
       let found = node_there nodes k s q in
       ap (λ ls. set ls k now) is
       ∙ ap (λ l. set (lines nodes queue) k l) (value ∙ ap (λ x. line after x) (sym found.serial))
-      ∙ changed_there (line queue) (line after) nodes k found.node d found.at (λ e r. ap (line_in nodes e) (same e (ap (λ x. x == e) (sym found.serial) ∙ r)))
+      ∙ changed_there (λ (m : Node). line queue m.serial) (λ (m : Node). line after m.serial) nodes k found.node d found.at (λ (m : Node) r. ap (line_in nodes m.serial) (same m.serial (ap (λ x. x == m.serial) (sym found.serial) ∙ r)))
 
 -- the queue of a node
 pub line_there : (nodes : List Node) (queue : ℕ → List ℕ) (kept : List QueueState) (k s : ℕ) (d : QueueState) → kept ≡ lines nodes queue → Some k ≡ position (λ (n : Node). n.serial == s) nodes → get_or kept k d ≡ line_in nodes s (queue s)

@@ -18,7 +18,7 @@ use Rattle.smil_past.specs.Chronicle.{BacksUp, EndsAtMark, HoldsAt, Lags, LagsIf
 use Rattle.smil_past.proofs.Fronts.{follows_at, possible_before}
 use Rattle.smil_past.proofs.Grown.{holds_longer, holds_shorter}
 
-names_front : (place len : ℕ) (diary : List Entry) → NamesBelow place diary → NamesBelow place (take len diary)
+pub names_front : (place len : ℕ) (diary : List Entry) → NamesBelow place diary → NamesBelow place (take len diary)
 names_front place len diary named =
     each_left (λ (x : Entry). IsNamedBelow place x.step) (take len diary) (drop len diary)
     (subst (NamesBelow place) (sym (take-append-drop len diary)) named)

@@ -3,10 +3,8 @@ use Rattle.std.specs.Prelude.{◌≡◌, ℕ, ◌≤◌, ◌<◌, List, [], leng
 use Rattle.smil_model.specs.declared.diary.Entry.{Entry}
 use Rattle.smil_model.specs.declared.diary.LogEntry.{LogEntry}
 use Rattle.smil_model.specs.document.Document.{Document}
-use Rattle.smil_graph.specs.Graph.{OrderedNodes}
 use Rattle.smil_past.specs.declared.chronicle.Chronicle.{Chronicle}
 use Rattle.smil_past.specs.Past.{IsPossible}
-use Rattle.smil_past.specs.Syncs.{SyncRow, all_syncs}
 use Rattle.smil_past.specs.Readings.{Holds, AreReadingsOf}
 
 -- its diary is possible with this document and this log, and its readings are of these
@@ -52,13 +50,3 @@ pub record BacksUp (document : Document) (log : List LogEntry) (diary : List Ent
 -- where there is a mark, the second one ends there
 abbrev pub EndsAtMark : Option Chronicle → Option (ℕ × ℕ) → Type 0
 EndsAtMark second marked = (mark : ℕ × ℕ) → marked ≡ Some mark → reach second ≡ Some mark.1
-
--- a document with its log, and what is kept of it: its graph, what its items wait for, a chronicle,
--- a second one with first entries of its diary, and a mark
-pub record KeepsPast
-    (document : Document) (log : List LogEntry) (graph : OrderedNodes) (syncs : List SyncRow)
-    (first : Chronicle) (second : Option Chronicle) (mark : Option (ℕ × ℕ)) : Type 0 where
-  pub graph_is : graph.nodes ≡ document.nodes
-  pub syncs_are : syncs ≡ all_syncs document.nodes
-  pub tells : Tells document log first
-  pub backs_up : BacksUp document log first.book second mark

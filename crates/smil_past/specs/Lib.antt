@@ -7,3 +7,4 @@ pub mod Syncs
 pub mod Past
 pub mod Readings
 pub mod Chronicle
+pub mod Kept

@@ -77,19 +77,16 @@ impl Chronicle {
         }
     }
 
-    /// Appends the entries of a history that it lacks; where memory runs out, the first of them.
-    /// All that it has are among the first of that history.
-    pub fn catch_up(&mut self, history: &DocumentHistory<'_>) -> Result<(), AllocError>
-        requires possible { IsPossible history.now.tree.now history.now.log.now
-            history.now.book.now }
-        requires lags { Lags history.now.tree.now history.now.log.now history.now.book.now
-            self.old }
-        ensures lags { Lags history.now.tree.now history.now.log.now history.now.book.now
-            self.new }
-        ensures ok { OnOk result (self.new.book ≡ history.now.book.now) }
+    /// Appends those of these entries that it lacks; where memory runs out, the first of them. All
+    /// that it has are among the first of these.
+    pub fn catch_up(&mut self, tree: &Tree, log: &Log, entries: &[Entry]) -> Result<(), AllocError>
+        requires possible { IsPossible tree.now log.now entries.now }
+        requires lags { Lags tree.now log.now entries.now self.old }
+        ensures lags { Lags tree.now log.now entries.now self.new }
+        ensures ok { OnOk result (self.new.book ≡ entries.now) }
     {
-        for entry in &history.book.entries()[self.book.len()..] {
-            let Ok(()) = self.push(history.tree, history.log, *entry) else {
+        for entry in &entries[self.book.len()..] {
+            let Ok(()) = self.push(tree, log, *entry) else {
                 return Err(AllocError);
             };
         }

@@ -4,6 +4,8 @@
 #![tactic(auto)]
 
 mod chronicle;
+mod document;
+mod kept;
 pub mod makeup;
 pub mod past;
 pub mod plays;
@@ -14,7 +16,7 @@ pub mod syncs;
 pub use makeup::Makeup;
 pub use past::{GraphedTree, Past};
 pub use plays::{PastInterval, PlayFacts, Plays};
-pub use queues::Queues;
+pub use queues::{Queues, excl_above};
 pub use readings::Readings;
 pub use smil_model::Class;
 pub use syncs::{Syncbase, Syncs};

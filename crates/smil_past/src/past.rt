@@ -1,6 +1,6 @@
 //! What has happened in a presentation so far.
 
-ghost use Rattle.std.specs.Prelude.{◌≡◌, ◌<◌, ℕ, [], ◌∷◌, ◌++◌, length, true, None, Some, is_some, OnOk, OnErr, IfOk, IfErr};
+ghost use Rattle.std.specs.Prelude.{◌≡◌, ◌<◌, ◌≤◌, ℕ, [], ◌∷◌, ◌++◌, length, take, true, None, Some, is_some, OnOk, OnErr, IfOk, IfErr};
 ghost use Rattle.smil_model.specs.declared.limits.TheConstants as limits;
 ghost use Rattle.smil_model.specs.declared.document.Node.{Node as AnyNode};
 ghost use Rattle.smil_model.specs.document.Document.{elements, node_at};
@@ -17,31 +17,35 @@ ghost use Rattle.smil_past.specs.Chronicle.{BacksUp, EndsAtMark, LagsIfAny, Tell
 ghost use Rattle.smil_past.specs.Past.{IsPossible, MayFollow, MayHear, history_of, with_diary, with_heard, at_mark};
 
 use super::chronicle::Chronicle;
+use super::document::PreparedDocument;
+use super::kept::{KeptReadings, catch_up_keeping, drop_later, nearest};
 use super::makeup::Makeup;
 use super::plays::Plays;
 use super::queues::Queues;
 use super::syncs::Syncs;
 use smil_diary::{Book, BookFault};
 use smil_graph::Graph;
-use smil_instances::{DocumentHistory, Instances};
+use smil_instances::Instances;
 use smil_model::{Duplicate, Entry, Log, LogEntry, Step};
 use smil_stretch::Clocks;
 use smil_tree::Tree;
 use std::alloc::{AllocError, Global};
 use std::marker::Model;
+use std::mem::replace;
+use std::rc::Rc;
 
 /// A document, its log and its diary so far, with the graph of the document, the clocks, the plays,
 /// the queues of excls and the instance times that these give; seen as the first three, and, where
 /// there is a mark, how long log and diary were when it was made. A second chronicle has the first
-/// entries of the diary; once an entry was appended after the mark, those up to the mark.
+/// entries of the diary; once an entry was appended after the mark, those up to the mark. Readings
+/// of first entries of the diary are kept so that `front` can begin with them.
 pub struct Past {
-    tree: Tree,
-    graph: Graph,
-    syncs: Syncs,
+    document: Rc<PreparedDocument>,
     log: Log,
     chronicle: Chronicle,
     second: Option<Chronicle>,
     mark: Option<(usize, usize)>,
+    kept: Vec<KeptReadings>,
     alloc: Global,
 }
 
@@ -49,13 +53,12 @@ impl Drop for Past {
     // Dropped by a call of its own, not field by field in each function that drops one.
     fn drop(self) {
         let Past {
-            tree: _tree,
-            graph: _graph,
-            syncs: _syncs,
+            document: _document,
             log: _log,
             chronicle: _chronicle,
             second: _second,
             mark: _mark,
+            kept: _kept,
             alloc: _alloc,
         } = self;
     }
@@ -63,14 +66,19 @@ impl Drop for Past {
 
 impl Model for Past {
     ghost use Rattle.smil_past.specs.Past.{MarkedHistory};
-    ghost use Rattle.smil_past.specs.Chronicle.{KeepsPast};
+    ghost use Rattle.smil_past.specs.Kept.{KeepsPast};
 
     ghost Value = { MarkedHistory };
 
-    ghost view = { λ p.
-        record { document = p.tree; log = p.log; diary = p.chronicle.book; marked = p.mark } };
+    ghost view = { λ p. record {
+      document = p.document.value;
+      log = p.log;
+      diary = p.chronicle.book;
+      marked = p.mark;
+    } };
 
-    ghost invariant = { λ p. KeepsPast p.tree p.log p.graph p.syncs p.chronicle p.second p.mark };
+    ghost invariant = { λ p.
+        KeepsPast p.document.value p.log p.chronicle p.second p.mark p.kept.items };
 }
 
 /// A document in place, with its graph.
@@ -111,16 +119,16 @@ impl Past {
             ≡ record { document = graphed.tree; log = log; diary = []; marked = None }) }
     {
         let GraphedTree { tree, graph } = graphed;
-        let syncs = Syncs::of(alloc, &tree, &graph)?;
         let chronicle = Chronicle::new(alloc, &tree, &graph)?;
+        let dependents = chronicle.readings.instances.dependents();
+        let syncs = Syncs::of(alloc, &tree, &graph, dependents)?;
         Ok(Past {
-            tree,
-            graph,
-            syncs,
+            document: Rc::new(alloc, PreparedDocument::new(tree, graph, syncs))?,
             log,
             chronicle,
             second: None,
             mark: None,
+            kept: Vec::new(alloc),
             alloc,
         })
     }
@@ -156,13 +164,14 @@ impl Past {
         ensures full { IfErr result (λ fault. fault ≡ book_fault.DiaryFull → length self.old.diary
             ≡ limits.DIARY_ENTRIES) }
     {
+        let tree = self.document.tree();
         let first = First {
-            tree: &self.tree,
+            tree,
             log: &self.log,
             chronicle: &self.chronicle,
         };
         note(&mut self.second, &first, self.mark)?;
-        self.chronicle.push(&self.tree, &self.log, entry)?;
+        self.chronicle.push(tree, &self.log, entry)?;
         Ok(())
     }
 
@@ -215,6 +224,7 @@ impl Past {
     {
         let (log, diary) = self.mark.take().unwrap();
         self.log.cut_back(log);
+        drop_later(&mut self.kept, diary);
         if diary < self.chronicle.book.len() {
             self.chronicle = self.second.take().unwrap();
         }
@@ -235,25 +245,61 @@ impl Past {
         self.mark = None;
     }
 
+    /// What had happened when log and diary had so many entries, over the same document; unless
+    /// memory runs out. There is no mark, neither here nor there. It takes in again the entries
+    /// alone after the nearest readings that are kept, and keeps readings on the way for the next
+    /// time: those at the middle of what is left, again and again, 32 at most. So the first time it
+    /// takes in all entries, and later, where it goes back by little, few of them. Besides, it takes
+    /// time near linear in the diary, and for each readings that it keeps in the elements. What is
+    /// kept goes over to the result.
+    pub fn front(&mut self, log: usize, diary: usize) -> Result<Past, AllocError>
+        requires unmarked { self.old.marked ≡ None }
+        requires log_within { log ≤ length self.old.log }
+        requires diary_within { diary ≤ length self.old.diary }
+        requires possible { IsPossible self.old.document (take log self.old.log)
+            (take diary self.old.diary) }
+        ensures same { self.new ≡ self.old }
+        ensures front { IfOk result (λ past. past ≡ at_mark self.old (log, diary)) }
+    {
+        let mut kept = replace(&mut self.kept, Vec::new(self.alloc));
+        drop_later(&mut kept, diary);
+        let mut heard = self.log.copy()?;
+        heard.cut_back(log);
+        let document = self.document.as_ref();
+        let book = &self.chronicle.book;
+        let mut chronicle = nearest(self.alloc, document, book, &kept)?;
+        let entries = &book.entries()[..diary];
+        catch_up_keeping(&mut chronicle, &mut kept, document.tree(), &heard, entries)?;
+        Ok(Past {
+            document: self.document.clone()?,
+            log: heard,
+            chronicle,
+            second: None,
+            mark: None,
+            kept,
+            alloc: self.alloc,
+        })
+    }
+
     /// The document.
     pub fn tree(&self) -> &Tree
         ensures { result.now ≡ self.now.document }
     {
-        &self.tree
+        self.document.tree()
     }
 
     /// On which elements each element of the document depends.
     pub fn graph(&self) -> &Graph
         ensures { result.now.nodes ≡ self.now.document.nodes }
     {
-        &self.graph
+        self.document.graph()
     }
 
     /// What the items of the document's elements wait for.
     pub fn syncs(&self) -> &Syncs
         ensures { result.now ≡ all_syncs self.now.document.nodes }
     {
-        &self.syncs
+        self.document.syncs()
     }
 
     /// What evaluation reads of the attributes of an element. It takes no memory.
@@ -316,15 +362,22 @@ impl Past {
         &self.chronicle.readings.instances
     }
 
-    /// A copy, unless memory runs out. There is no mark. The original stays. It takes in the
-    /// diary's entries anew.
+    /// A copy over the same document, unless memory runs out. There is no mark. The original stays.
+    /// It takes time near linear in the document's elements and in the diary, whose entries it
+    /// doesn't take in again.
     pub fn copy(&self) -> Result<Past, AllocError>
         requires { self.now.marked ≡ None }
         ensures { IfOk result (λ copy. copy ≡ self.now) }
     {
-        let graphed = GraphedTree::of(self.alloc, self.tree.copy()?)?;
-        let log = self.log.copy()?;
-        Past::of(self.alloc, graphed, log, self.chronicle.book.entries())
+        Ok(Past {
+            document: self.document.clone()?,
+            log: self.log.copy()?,
+            chronicle: self.chronicle.copy()?,
+            second: None,
+            mark: None,
+            kept: Vec::new(self.alloc),
+            alloc: self.alloc,
+        })
     }
 
     /// What has happened is possible: a law for proofs, which costs nothing.
@@ -387,11 +440,10 @@ fn bring_up(second: &mut Option<Chronicle>, first: &First<'_>) -> Result<(), All
     ensures ok { OnOk result (reach second.new ≡ Some (length first.now.chronicle.now.book)) }
 {
     match second {
-        Some(lagging) => lagging.catch_up(&DocumentHistory {
-            tree: first.tree,
-            log: first.log,
-            book: &first.chronicle.book,
-        }),
+        Some(lagging) => {
+            let entries = first.chronicle.book.entries();
+            lagging.catch_up(first.tree, first.log, entries)
+        }
         None => {
             *second = Some(first.chronicle.copy()?);
             Ok(())

@@ -1,18 +1,21 @@
 //! The queues of a document's excls.
 
-ghost use Rattle.std.specs.Prelude.{◌≡◌, List, IfOk, IsSome, slice_get};
+ghost use Rattle.std.specs.Prelude.{◌≡◌, List, true, IfOk, IsSome, slice_get};
 ghost use Rattle.smil_model.specs.declared.diary.LogEntry.{LogEntry as AnyLogEntry};
-ghost use Rattle.smil_model.specs.document.Document.{node_at};
+ghost use Rattle.smil_model.specs.document.Document.{has_kind, is_excl_kind, node_at, serial_of};
 ghost use Rattle.smil_model.specs.diary.Diary.{History};
-ghost use Rattle.smil_model.specs.happening.Queue.{class_facts, queue_of};
+ghost use Rattle.smil_model.specs.happening.Queue.{class_facts, playing_child, queue_of};
 ghost use Rattle.smil_model.specs.diary.Diary.{with_entry};
 ghost use Rattle.smil_past.specs.Queues.{AreQueuesOf, IsPastOf, kept_queues, unplayed};
 
 mod classes;
 mod lines;
+mod playing;
 
 use classes::{class_at, classes_of};
 use lines::{empty_queues, first_at, take_in};
+pub use playing::excl_above;
+use playing::{first_playing, none_playing, play_on};
 use smil_excl::Queue;
 use smil_instance_rows::copy_each;
 use smil_model::{Class, Duplicate, Entry};
@@ -20,11 +23,14 @@ use smil_tree::Tree;
 use std::alloc::{AllocError, Global};
 use std::marker::Model;
 
-/// The queues of a document's excls and the classes of their children, seen as a queue and a class
-/// for each node, in document order. A node that is no excl has the empty queue, as long as an excl
-/// alone pauses and defers.
+/// The queues of a document's excls, the children that play in them, and the classes of their
+/// children; seen as a queue, the children that play and a class for each node, in document order.
+/// A node that is no excl has the empty queue, as long as an excl alone pauses and defers, and no
+/// child that plays. The children that play in an excl stand in child order: each has its place in
+/// the document as its rank.
 pub struct Queues {
     queues: Vec<Queue>,
+    playing: Vec<Queue>,
     classes: Vec<Class>,
 }
 
@@ -33,6 +39,7 @@ impl Drop for Queues {
     fn drop(self) {
         let Queues {
             queues: _queues,
+            playing: _playing,
             classes: _classes,
         } = self;
     }
@@ -43,7 +50,11 @@ impl Model for Queues {
 
     ghost Value = { KeptQueues };
 
-    ghost view = { λ a. record { queues = a.queues.items; classes = a.classes.items } };
+    ghost view = { λ a. record {
+      queues = a.queues.items;
+      playing = a.playing.items;
+      classes = a.classes.items;
+    } };
 }
 
 impl Duplicate for Queues {
@@ -51,6 +62,7 @@ impl Duplicate for Queues {
         let alloc = *self.classes.allocator();
         Ok(Queues {
             queues: copy_each(alloc, &self.queues)?,
+            playing: copy_each(alloc, &self.playing)?,
             classes: Vec::from_slice(alloc, &self.classes)?,
         })
     }
@@ -58,25 +70,28 @@ impl Duplicate for Queues {
 
 impl Queues {
     /// The queues of a document to which nothing has happened yet, unless memory runs out: all are
-    /// empty, each with room for all time children.
+    /// empty, each with room for all time children, and no child plays.
     pub fn new(alloc: Global, tree: &Tree) -> Result<Queues, AllocError>
         ensures { (log : List AnyLogEntry)
             → IfOk result (λ queues. queues ≡ kept_queues (unplayed tree.now.nodes log)) }
     {
         Ok(Queues {
             queues: empty_queues(alloc, tree)?,
+            playing: none_playing(alloc, tree)?,
             classes: classes_of(alloc, tree)?,
         })
     }
 
     /// Takes in an entry, which is lawful after what has happened so far. It takes no memory, and
-    /// touches the queue of the entry's element and that of its time parent.
+    /// touches the queue of the entry's element, that of its time parent, and the children that
+    /// play there.
     pub fn follow(&mut self, tree: &Tree, entry: Entry)
         requires { (h : History) × IsPastOf self.old tree.now entry h }
         ensures { (h : History) → IsPastOf self.old tree.now entry h
             → self.new ≡ kept_queues (with_entry h entry) }
     {
         take_in(&mut self.queues, &self.classes, tree, entry.step);
+        play_on(&mut self.playing, tree, entry.step);
     }
 
     /// The next child of the queue of an element; None where it is empty, or there is no such
@@ -88,6 +103,16 @@ impl Queues {
             → result ≡ slice_get (queue_of h excl) 0 }
     {
         first_at(&self.queues, tree, excl)
+    }
+
+    /// The child that plays in an excl: the first of its time children that is active and not
+    /// paused; None exactly where there is none. It takes no memory, and a fixed number of steps.
+    pub fn playing(&self, tree: &Tree, excl: u32) -> Option<u32>
+        requires { has_kind is_excl_kind (node_at tree.now.nodes excl) ≡ true }
+        ensures { (h : History) → AreQueuesOf self.now tree.now h
+            → result ≡ serial_of (playing_child h excl) }
+    {
+        first_playing(&self.playing, tree, excl)
     }
 
     /// The priority class of a node. It takes no memory.

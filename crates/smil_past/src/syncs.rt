@@ -55,18 +55,23 @@ impl Model for Syncs {
 
 impl Syncs {
     /// What the items of a document wait for and its attributes tell, unless memory runs out. The
-    /// graph is that of the tree.
-    pub fn of(alloc: Global, tree: &Tree, graph: &Graph) -> Result<Syncs, AllocError>
-        requires { graph.now.nodes ≡ tree.now.nodes }
+    /// graph is that of the tree, and so is what its items follow from.
+    pub fn of(
+        alloc: Global,
+        tree: &Tree,
+        graph: &Graph,
+        dependents: &Dependents,
+    ) -> Result<Syncs, AllocError>
+        requires graph { graph.now.nodes ≡ tree.now.nodes }
+        requires dependents { AreDependentsOf tree.now.nodes dependents.now }
         ensures { IfOk result (λ syncs. syncs ≡ all_syncs tree.now.nodes) }
     {
         let whos = elements(alloc, tree)?;
         let places = places_of(alloc, tree, &whos)?;
-        let dependents = Dependents::of(alloc, tree)?;
         let reader = Reader {
             alloc,
             graph,
-            dependents: &dependents,
+            dependents,
         };
         let rows = rows_of(&reader, tree, &whos)?;
         Ok(Syncs { places, rows })

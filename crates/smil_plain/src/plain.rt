@@ -3,9 +3,10 @@
 ghost use Rattle.std.specs.Prelude.{◌≡◌, ◌≤◌, true, OnOk, OnErr, IfOk};
 ghost use Rattle.smil_model.specs.diary.Lawful.{has_element};
 ghost use Rattle.smil_past.specs.Past.{IsPresent, history_of};
-ghost use Rattle.smil_rounds.specs.Current.{IsCurrent};
+ghost use Rattle.smil_rounds.specs.Current.{IsCurrent, interval_in};
+ghost use Rattle.smil_cells.specs.Evaluated.{AreChanged};
 ghost use Rattle.smil_rounds.specs.Round.{AreOfElements, IsRowEvaluated, StayUnchanged, due_in, with_key};
-ghost use Rattle.smil_plain.specs.Plain.{IsNoted};
+ghost use Rattle.smil_plain.specs.Plain.{IsNoted, IsTold};
 
 use smil_cells::{Cells, Since, Table};
 use smil_due::DueQueue;
@@ -161,6 +162,8 @@ impl PlainTable {
             moment) }
         ensures changed { OnOk result (StayUnchanged changed.old changed.new self.old.known
             self.new.known) }
+        ensures told { OnOk result (AreChanged changed.old changed.new
+            (interval_in self.old.known) (interval_in self.new.known)) }
         ensures noted { self.new.noted ≡ self.old.noted }
         ensures has_mark { self.new.has_mark ≡ self.old.has_mark }
         ensures counted { steps.old ≤ steps.new }
@@ -191,6 +194,8 @@ impl PlainTable {
         ensures taken { OnOk result (IsRowEvaluated (history_of present.now.past.now)
             present.now.moment present.now.who self.old.known self.new.known) }
         ensures changed { OnOk result (StayUnchanged changed.old changed.new self.old.known
+            self.new.known) }
+        ensures told { OnOk result (IsTold present.now.who changed.old changed.new self.old.known
             self.new.known) }
         ensures noted { self.new.noted ≡ self.old.noted }
         ensures has_mark { self.new.has_mark ≡ self.old.has_mark }

@@ -1,6 +1,6 @@
 //! Presentations that are played, whose clocks and instance times are told.
 
-ghost use Rattle.std.specs.Prelude.{◌≡◌, ◌<◌, ◌+ℤ◌, pos, true, false, None, IfOk, OnOk};
+ghost use Rattle.std.specs.Prelude.{◌≡◌, ◌<◌, ◌≤◌, ◌+ℤ◌, length, pos, true, false, None, IfOk, OnOk};
 ghost use Rattle.smil_cells.specs.CellsState.{NothingBefore};
 ghost use Rattle.smil_model.specs.Times.{IsMoment};
 ghost use Rattle.smil_model.specs.diary.Logs.{is_serial, may_happen};
@@ -16,9 +16,9 @@ use smil_instances::Instances;
 use smil_instances::elements::elements;
 use smil_interval::Steps;
 use smil_model::{
-    Bytes, Doc, HORIZON, Happening, LOG_ENTRIES, LogEntry, Order, SERIALS, Who, WordList,
+    Bytes, Doc, Duplicate, HORIZON, Happening, LOG_ENTRIES, LogEntry, Order, SERIALS, Who, WordList,
 };
-use smil_past::Past;
+use smil_past::{GraphedTree, Past};
 use smil_plain::PlainCells;
 use smil_stretch::Clocks;
 use smil_tree::Tree;
@@ -35,7 +35,8 @@ struct Script {
 
 /// `play LINE|LINE|..|%%|ORDER|ORDER|..`: the document of an outline plays from moment 0 on by
 /// script lines whose orders are `advance`, `seek` to a later moment, `event`, `media` and `key`.
-/// In the end its clocks and its instance times are told.
+/// In the end its clocks and its instance times are told, and whether they are the same after going
+/// back as where they are made anew.
 pub fn play(alloc: Global, words: &mut Words<'_>, out: &mut Bytes) -> Result<(), Fault> {
     let (outline, orders) = outline_and_orders(words.rest())?;
     let script = Script {
@@ -66,7 +67,8 @@ fn played<L: Ledger>(
         }
     }
     tell_clocks(alloc, out, &cells)?;
-    tell_times(alloc, out, &cells)
+    tell_times(alloc, out, &cells)?;
+    tell_fronts(alloc, out, &cells)
 }
 
 // One order.
@@ -224,4 +226,56 @@ fn instances_anew(alloc: Global, past: &Past) -> Result<Instances, AllocError> {
     let mut instances = Instances::new(alloc, tree, past.graph())?;
     instances.rebuild(tree, past.log(), past.book())?;
     Ok(instances)
+}
+
+// Whether what had happened by a quarter of the diary, to which it goes back in two steps, is told
+// as where it is made anew.
+fn tell_fronts(alloc: Global, out: &mut Bytes, cells: &PlainCells) -> Result<(), Fault> {
+    let past = cells.past();
+    let mut whole = past_of_first(alloc, past, past.book().len())?;
+    let mut half = half_of(&mut whole)?;
+    let quarter = half_of(&mut half)?;
+    let anew = past_of_first(alloc, past, past.book().len() / 4)?;
+    let shown = past_text(alloc, cells, &quarter)?;
+    let again = past_text(alloc, cells, &anew)?;
+    put_flag(out, shown == again)?;
+    Ok(())
+}
+
+// What had happened by the first entries of the diary, made anew.
+fn past_of_first(alloc: Global, past: &Past, len: usize) -> Result<Past, AllocError>
+    requires { len ≤ length past.now.diary }
+    ensures { IfOk result (λ first. first.marked ≡ None) }
+{
+    past.possible();
+    let graphed = GraphedTree::of(alloc, past.tree().copy()?)?;
+    let log = past.log().copy()?;
+    Past::of(alloc, graphed, log, &past.book().entries()[..len])
+}
+
+// What had happened by the first half of the diary, to which a past without a mark goes back.
+fn half_of(past: &mut Past) -> Result<Past, AllocError>
+    requires { past.old.marked ≡ None }
+    ensures { IfOk result (λ half. half.marked ≡ None) }
+{
+    past.possible();
+    let log = past.log().len();
+    let diary = past.book().len() / 2;
+    past.front(log, diary)
+}
+
+// How many entries there are, and the clocks and the instance times of the elements at the present
+// moment.
+fn past_text(alloc: Global, cells: &PlainCells, past: &Past) -> Result<Bytes, Fault> {
+    let moment = moment_of(cells)?;
+    let whos = elements(alloc, cells.tree())?;
+    let present = PlayMoment {
+        clocks: past.clocks(),
+        moment,
+    };
+    let mut text = Bytes::new(alloc);
+    put_number(&mut text, past.book().len())?;
+    put_clocks(&mut text, &present, &whos)?;
+    put_instances(&mut text, past.instances(), &present, &whos)?;
+    Ok(text)
 }

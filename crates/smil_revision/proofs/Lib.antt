@@ -1,4 +1,5 @@
 pub mod AgreedMarks
+pub mod AlikeIds
 pub mod Copying
 pub mod Placing
 pub mod Reading

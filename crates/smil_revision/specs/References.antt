@@ -4,8 +4,9 @@ use Rattle.std.specs.Prelude.{ℕ, List, [], ◌++◌, map, Bool, true, false, n
 use Rattle.std.specs.Bool.{beq}
 use Rattle.std.specs.Cmp.Lexicographic.{pointwise}
 use Rattle.std.specs.List.{list_all}
+use Rattle.std.specs.Str.{bytes_eq}
 use Rattle.smil_model.specs.declared.document.Node.{Node}
-use Rattle.smil_model.specs.document.Document.{elements, element_named, node_at, serial_of}
+use Rattle.smil_model.specs.document.Document.{elements, element_named, is_element, node_at, serial_of}
 use Rattle.smil_model.specs.document.Dependencies.{all_items, is_looped}
 
 -- the serial of the element with this id
@@ -26,6 +27,18 @@ keeps_id old new (Some id) = is_same_serial (serial_named old id) (serial_named 
 -- whether each id of a node in either names the same element in both
 abbrev pub keeps_ids : List Node → List Node → Bool
 keeps_ids old new = list_all (λ (n : Node). keeps_id old new n.attrs.id) (old ++ new)
+
+-- whether two ids are the same, or both absent
+abbrev pub is_same_id : Option (List ℕ) → Option (List ℕ) → Bool
+is_same_id None None = true
+is_same_id (Some one) (Some other) = bytes_eq one other
+is_same_id _ _ = false
+
+-- whether two nodes have the same serial and id, and are both elements or both not
+abbrev pub is_alike : Node → Node → Bool
+is_alike n m =
+    (n.serial == m.serial) && beq (is_element n) (is_element m)
+    && is_same_id n.attrs.id m.attrs.id
 
 -- which items of an element are looped references
 abbrev pub loops : List Node → Option Node → List Bool

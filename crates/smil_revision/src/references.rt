@@ -1,6 +1,7 @@
 //! Whether an edit leaves the references of a document as they were.
 
 ghost use Rattle.std.specs.Prelude.{◌≡◌, ◌++◌, List, length, map, Some, IfOk, OnOk};
+ghost use Rattle.std.specs.Cmp.Lexicographic.{pointwise};
 ghost use Rattle.std.specs.List.{list_all};
 ghost use Rattle.smil_model.specs.declared.document.Node.{Node as AnyNode};
 ghost use Rattle.smil_model.specs.declared.document.Item.{Item as AnyItem};
@@ -8,11 +9,11 @@ ghost use Rattle.smil_model.specs.document.Defaults.{items_of, items_or};
 ghost use Rattle.smil_model.specs.document.Dependencies.{is_looped};
 ghost use Rattle.smil_model.specs.document.Document.{elements, node_at};
 ghost use Rattle.smil_revision.specs.ItemCounts.{counts_at};
-ghost use Rattle.smil_revision.specs.References.{is_same_serial, keeps_id, keeps_loops, keeps_loops_of, keeps_references, loops};
+ghost use Rattle.smil_revision.specs.References.{is_alike, is_same_id, is_same_serial, keeps_id, keeps_ids, keeps_loops, keeps_loops_of, keeps_references, loops};
 
 use smil_graph::Graph;
 use smil_instances::{element_named, element_of};
-use smil_model::{Bytes, Edge, Items, Who};
+use smil_model::{Bytes, Edge, Items, Node, Who};
 use smil_tree::Tree;
 use std::alloc::{AllocError, Global};
 
@@ -51,10 +52,57 @@ pub fn keeps_references(alloc: Global, revision: Revision<'_>) -> Result<bool, A
 {
     let old = revision.old.tree;
     let new = revision.new.tree;
-    if !keeps_ids(old, old, new)? || !keeps_ids(new, old, new)? {
+    if !keeps_all_ids(old, new)? {
         return Ok(false);
     }
     keeps_loops(alloc, revision)
+}
+
+// Whether each id of a node in either document names the same element in both, or none. Where the
+// nodes have the same serials, kinds and ids no id is looked up.
+fn keeps_all_ids(old: &Tree, new: &Tree) -> Result<bool, AllocError>
+    ensures { IfOk result (λ keeps. keeps ≡ keeps_ids old.now.nodes new.now.nodes) }
+{
+    if are_alike(old, new) {
+        return Ok(true);
+    }
+    Ok(keeps_ids(old, old, new)? && keeps_ids(new, old, new)?)
+}
+
+// Whether the nodes of two documents are alike, one after another.
+fn are_alike(old: &Tree, new: &Tree) -> bool
+    ensures { result ≡ pointwise is_alike old.now.nodes new.now.nodes }
+{
+    let mut others = new.nodes();
+    for node in old.nodes() {
+        let Some(other) = others.next() else {
+            return false;
+        };
+        if !is_alike(node, other) {
+            return false;
+        }
+    }
+    others.next().is_none()
+}
+
+// Whether two nodes have the same serial and id, and are both elements or both not.
+fn is_alike(node: &Node, other: &Node) -> bool
+    ensures { result ≡ is_alike node.now other.now }
+{
+    node.serial == other.serial
+        && node.kind.is_element() == other.kind.is_element()
+        && is_same_id(&node.attrs.id, &other.attrs.id)
+}
+
+// Whether two ids are the same, or both absent.
+fn is_same_id(one: &Option<Bytes>, other: &Option<Bytes>) -> bool
+    ensures { result ≡ is_same_id one.now other.now }
+{
+    match (one, other) {
+        (None, None) => true,
+        (Some(one), Some(other)) => one.slice() == other.slice(),
+        _ => false,
+    }
 }
 
 // Whether the id of each node of a document names the same element in both documents, or none.

@@ -65,6 +65,11 @@ impl Listing {
                 self.open(Session::in_turns(alloc, behind)?);
                 Ok(())
             }
+            "held" => {
+                self.begin(told)?;
+                self.open(Session::of_host(alloc, behind)?);
+                Ok(())
+            }
             "end" => self.end(alloc, behind, told),
             _ => self.add(alloc, line),
         }
@@ -99,8 +104,9 @@ impl Listing {
         };
         open.session.end(behind)?;
         put_line(told, "session", self.headers)?;
-        let status = serve_session(alloc, &open.session, told)?;
-        put_line(told, "exit", u64::from(status.exit_number()))?;
+        if let Some(status) = serve_session(alloc, &open.session, told)? {
+            put_line(told, "exit", u64::from(status.exit_number()))?;
+        }
         Ok(())
     }
 }

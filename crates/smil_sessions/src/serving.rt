@@ -7,6 +7,7 @@ use super::reporting_sink::ReportingSink;
 use super::session::{Input, Session};
 use super::turns::Turns;
 use super::waiting_source::WaitingSource;
+use smil_cases::Fault;
 use smil_interval::Steps;
 use smil_model::{Bytes, WordList};
 use smil_outside::{MemSink, MemSource, Sink, Source};
@@ -16,15 +17,20 @@ use std::cell::Cell;
 use std::marker::Brand;
 use std::sync::ledger::{Blank, Ledger};
 
-/// Serves a session, appends its transcript, and gives its status.
+/// Serves a session, appends its transcript, and gives its status; none where a host holds it,
+/// since then it doesn't end.
 pub fn serve_session(
     alloc: Global,
     session: &Session,
     told: &mut Bytes,
-) -> Result<Status, AllocError> {
+) -> Result<Option<Status>, Fault> {
     match &session.input {
-        Input::Pieces(pieces) => serve_pieces(alloc, &session.words, pieces, told),
-        Input::Turns(turns) => serve_turns(alloc, &session.words, turns, told),
+        Input::Pieces(pieces) => Ok(Some(serve_pieces(alloc, &session.words, pieces, told)?)),
+        Input::Turns(turns) => Ok(Some(serve_turns(alloc, &session.words, turns, told)?)),
+        Input::Requests(requests) => {
+            requests.answer(alloc, told)?;
+            Ok(None)
+        }
     }
 }
 

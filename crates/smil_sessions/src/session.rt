@@ -1,5 +1,6 @@
 //! A session as it is asked for.
 
+use super::hosting::Requests;
 use super::pieces::Pieces;
 use super::turns::Turns;
 use smil_cases::Fault;
@@ -20,6 +21,8 @@ pub enum Input {
     Pieces(Pieces),
     /// It is read line by line, each once the answers before it were taken.
     Turns(Turns),
+    /// A host holds the session, gives it its lines and asks what it wants to know.
+    Requests(Requests),
 }
 
 impl Session {
@@ -54,6 +57,17 @@ impl Session {
         })
     }
 
+    /// A session that a host holds. Its header has no word behind the first.
+    pub fn of_host(alloc: Global, header: &str) -> Result<Session, Fault> {
+        if !header.is_empty() {
+            return Err(Fault::Refused);
+        }
+        Ok(Session {
+            words: WordList::new(alloc),
+            input: Input::Requests(Requests::new(alloc)),
+        })
+    }
+
     /// Adds a line to the input: its text stands behind the first `|`, and what stands before that
     /// says how the line is given.
     pub fn add(&mut self, alloc: Global, line: &str) -> Result<(), Fault> {
@@ -63,15 +77,16 @@ impl Session {
         match &mut self.input {
             Input::Pieces(pieces) => pieces.add(mark, text),
             Input::Turns(turns) => turns.add(alloc, mark, text),
+            Input::Requests(requests) => requests.add(alloc, mark, text),
         }
     }
 
     /// Ends the input, by what stands behind the word `end`.
     pub fn end(&mut self, behind: &str) -> Result<(), Fault> {
         match &mut self.input {
-            Input::Pieces(_) if behind.is_empty() => Ok(()),
-            Input::Pieces(_) => Err(Fault::Refused),
             Input::Turns(turns) => turns.end(behind),
+            Input::Pieces(_) | Input::Requests(_) if behind.is_empty() => Ok(()),
+            Input::Pieces(_) | Input::Requests(_) => Err(Fault::Refused),
         }
     }
 }

@@ -93,7 +93,7 @@ fn attribute(
 fn has_y(text: &[u8]) -> bool
     ensures { result ≡ list_any is_y text.now }
 {
-    text.iter().any(|byte| *byte == b'y')
+    text.contains(&b'y')
 }
 
 /// Whether a line without leading spaces begins otherwise than with `switch` and has no `y`. It is

@@ -20,6 +20,7 @@ use smil_lexis::texts::past;
 use smil_model::{Bytes, Refusal};
 use std::alloc::{AllocError, Global};
 use std::marker::Model;
+use std::mem::replace;
 
 /// How the lines below each open line fare, from the outline down.
 #[derive(Drop)]
@@ -134,6 +135,8 @@ pub struct Chooser {
     wanted: Preferences,
     levels: Levels,
     line: Bytes,
+    /// The line kept before it, for its memory.
+    spare: Bytes,
 }
 
 impl Model for Chooser {
@@ -163,6 +166,7 @@ impl Chooser {
             wanted: preferences.copy()?,
             levels: Levels::new(alloc)?,
             line: Bytes::new(alloc),
+            spare: Bytes::new(alloc),
         })
     }
 
@@ -185,7 +189,7 @@ impl Chooser {
     {
         let removed = self.levels.switches(depth) as u32;
         self.levels.put(depth, behind_kept(parent), Below::Open)?;
-        self.line = line;
+        self.spare = replace(&mut self.line, line);
         Ok(Chosen::Kept { removed })
     }
 
@@ -199,7 +203,9 @@ impl Chooser {
           Kept (raised_in self.old depth),
         )) }
     {
-        let kept = Bytes::of(self.alloc, line)?;
+        let mut kept = replace(&mut self.spare, Bytes::new(self.alloc));
+        kept.cut_back(0);
+        kept.append(line)?;
         self.keep(depth, parent, kept)
     }
 

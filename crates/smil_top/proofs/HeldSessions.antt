@@ -1,6 +1,6 @@
 -- What a held session is told of lines, and the input that has these lines.
 use Rattle.std.proofs.Common.{◌≡◌, ◌≤◌, ℕ, false, List, [], ◌∷◌, ◌++◌, length, Option, Some, None, refl, ap, sym, subst, ◌∙◌}
-use Rattle.std.specs.Prelude.{pos, option_map, option_and_then, slice_get}
+use Rattle.std.specs.Prelude.{ℤ, IfSome, pos, option_map, option_and_then}
 use Rattle.std.proofs.lemmas.List.{append-nil}
 use Rattle.std.specs.Str.Lines.{lines}
 use Rattle.smil_model.specs.document.Words.{line_feed}
@@ -8,13 +8,14 @@ use Rattle.smil_model.specs.shown.Orders.{Presentation}
 use Rattle.smil_outside.specs.declared.line.TheConstants.{INPUT_BYTES}
 use Rattle.smil_outside.proofs.LineLemmas.{lines-starts}
 use Rattle.smil_house.specs.declared.house.NamedPlayer.{NamedPlayer}
-use Rattle.smil_house.specs.House.{place_of, moment_of}
+use Rattle.smil_house.specs.House.{moment_of, named}
+use Rattle.smil_house.specs.Next.{NothingChangesBefore, next_in, next_of}
 use Rattle.smil_top.specs.declared.held.Held.{Held}
 use Rattle.smil_top.specs.declared.status.Status.{Status}
 use Rattle.smil_top.specs.Answers.{answer_of as order_answer}
 use Rattle.smil_top.specs.Cut.{cut_of, orders, unended}
 use Rattle.smil_top.specs.Houses.{Presentations, Holds}
-use Rattle.smil_top.specs.Session.{NamedPresentation, Session, found_in, presentation_of}
+use Rattle.smil_top.specs.Session.{Session, found_in, presentation_of}
 use Rattle.smil_top.specs.Held.{AreInputLines, IsHeld, input_of}
 use Rattle.smil_top.specs.Serving.{IsWholeTranscript, status_of}
 use Rattle.smil_top.specs.Transcript.{TranscriptState, IsTranscriptBy, transcript_by}
@@ -50,7 +51,11 @@ module _ (held : Held) (given : List (List ℕ)) (told : TranscriptState) (is : 
       let same : whole.told ≡ told = is_one order_answer whole.transcript enough ∙ sym (is_one order_answer transcript suffices) in
       (whole.text_is ∙ ap (λ (t : TranscriptState). t.text) same, whole.ended_is ∙ ap status_of same)
 
--- ---- the moment of a presentation
+-- ---- the presentation of a name, and its moments
+
+presentation-told : (name : List ℕ) (house : Presentations) (session : Session) → Holds house session →
+    presentation_of name session ≡ option_map (λ (h : NamedPlayer Presentation). h.player) (named name house)
+presentation-told name house session holds = ap (found_in name) holds.session_is ∙ presentation-held name house
 
 moment-by : (o : Option (NamedPlayer Presentation)) →
     option_map (λ (h : NamedPlayer Presentation). pos h.player.now) o
@@ -58,9 +63,27 @@ moment-by : (o : Option (NamedPlayer Presentation)) →
 moment-by None = refl
 moment-by (Some h) = refl
 
-pub moment-told : (name : List ℕ) (house : Presentations) (session : Session) → Holds house session →
-    moment_of itself name house ≡ option_map (λ (p : Presentation). pos p.now) (presentation_of name session)
-moment-told name house session holds =
-    moment-by (option_and_then (slice_get house) (place_of name house))
-    ∙ ap (option_map (λ (p : Presentation). pos p.now)) (sym (presentation-held name house))
-    ∙ ap (λ (held : List NamedPresentation). option_map (λ (p : Presentation). pos p.now) (found_in name held)) (sym holds.session_is)
+next-by : (o : Option (NamedPlayer Presentation)) →
+    option_and_then (λ (h : NamedPlayer Presentation). next_of h.player) o
+    ≡ option_and_then next_of (option_map (λ (h : NamedPlayer Presentation). h.player) o)
+next-by None = refl
+next-by (Some h) = refl
+
+quiet-by : (P : Presentation → Type 0) (o : Option (NamedPlayer Presentation)) →
+    IfSome o (λ (h : NamedPlayer Presentation). P h.player) → IfSome (option_map (λ (h : NamedPlayer Presentation). h.player) o) P
+quiet-by P None holds = tt
+quiet-by P (Some h) holds = holds
+
+module _ (name : List ℕ) (house : Presentations) (session : Session) (holds : Holds house session) where
+  pub moment-told : moment_of itself name house ≡ option_map (λ (p : Presentation). pos p.now) (presentation_of name session)
+  moment-told =
+      moment-by (named name house) ∙ ap (option_map (λ (p : Presentation). pos p.now)) (sym (presentation-told name house session holds))
+
+  pub next-told : next_in itself name house ≡ option_and_then next_of (presentation_of name session)
+  next-told = next-by (named name house) ∙ ap (option_and_then next_of) (sym (presentation-told name house session holds))
+
+  pub quiet-told : (next : Option ℤ) → IfSome (named name house) (λ (h : NamedPlayer Presentation). NothingChangesBefore next h.player) →
+      IfSome (presentation_of name session) (NothingChangesBefore next)
+  quiet-told next quiet =
+      subst (λ (o : Option Presentation). IfSome o (NothingChangesBefore next)) (sym (presentation-told name house session holds))
+      (quiet-by (NothingChangesBefore next) (named name house) quiet)

@@ -1,7 +1,8 @@
 //! A session that a host holds, and to which it gives one line after another.
 
-ghost use Rattle.std.specs.Prelude.{◌≡◌, ◌≤◌, ◌++◌, [], length, option_map, pos, IfOk, IfSome, OnErr, OnOk};
+ghost use Rattle.std.specs.Prelude.{◌≡◌, ◌≤◌, ◌++◌, [], length, option_and_then, option_map, pos, IfOk, IfSome, OnErr, OnOk};
 ghost use Rattle.smil_model.specs.shown.Orders.{Presentation};
+ghost use Rattle.smil_house.specs.Next.{NothingChangesBefore, next_of};
 ghost use Rattle.smil_top.specs.Cut.{CutLines, cut_of, with_line};
 ghost use Rattle.smil_top.specs.Held.{HasTaken, IsHeld, answer_of, counts_of, last_number};
 ghost use Rattle.smil_top.specs.Running.{EvaluatesOn, IsLine};
@@ -90,6 +91,18 @@ impl Held {
             (presentation_of name.now told.session) }
     {
         self.run.session.house.moment(name)
+    }
+
+    /// The moment at which something comes next in the presentation of this name, in milliseconds
+    /// of document time, if no order comes before; None where nothing does, or there is none. An
+    /// advance to a moment before it changes nothing.
+    pub fn next_due(&self, name: &[u8]) -> Option<i64>
+        ensures next { (cut : CutLines) (told : TranscriptState) → IsHeld self.now cut told
+            → result ≡ option_and_then next_of (presentation_of name.now told.session) }
+        ensures quiet { (cut : CutLines) (told : TranscriptState) → IsHeld self.now cut told
+            → IfSome (presentation_of name.now told.session) (NothingChangesBefore result) }
+    {
+        self.run.session.house.next_due(name)
     }
 }
 

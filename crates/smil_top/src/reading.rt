@@ -15,6 +15,17 @@ use smil_outside::{Line, LineReader, Sink, Source};
 use std::alloc::{AllocError, Global};
 use std::sync::ledger::Ledger;
 
+// How many bytes are taken once, before the first line, and given back.
+const ROOM: usize = 2 * 1024 * 1024;
+
+// Takes memory and gives it back unused. The GNU C library keeps as much as twice what was given
+// back at once for what is taken next; else most of what a load took would go back to the system
+// at its end, and be taken anew, page by page, by the next load. Where there isn't as much, nothing
+// is lost.
+fn widen(alloc: Global) {
+    let _room: Result<Vec<u8>, AllocError> = Vec::with_capacity(alloc, ROOM);
+}
+
 /// A reader of lines, and a session before its first one.
 #[derive(Drop)]
 pub(crate) struct Opening {
@@ -29,6 +40,7 @@ impl Opening {
         ensures reader { IfOk result (λ opening. opening.reader ≡ fresh_reading) }
         ensures run { IfOk result (λ opening. IsRunning checks opening.run (cut_of []) untold) }
     {
+        widen(alloc);
         Ok(Opening {
             reader: LineReader::new(alloc)?,
             run: Run::new(alloc, checks)?,

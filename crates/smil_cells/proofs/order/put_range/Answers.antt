@@ -1,14 +1,17 @@
-use Rattle.std.proofs.Common.{arith}
+use Rattle.std.proofs.Common.{arith, inl}
 use Rattle.smil_cells.proofs.Ordering.{place_put, place_stays}
+use Rattle.smil_cells.proofs.Touching.{place_only}
 use Rattle.smil_cells.proofs.order.put_range.Goals as goal
 
 pub loop-place-init : goal.loop-place-init
-loop-place-init c = record { more = λ p q. q; put = λ p from below. absurd (omega (arith, from, below)) }
+loop-place-init c = record { more = λ p q. q; put = λ p from below. absurd (omega (arith, from, below)); from = omega arith; only = λ p q. inl q }
 
 pub loop-place-preserved : goal.loop-place-preserved
 loop-place-preserved c = record {
   more = λ p q. place_stays c.loop-place.place c.loop-place.places c.put.new.self c.in_ok-put.ensures.ok p (c.loop-place.invariant.more p q);
   put = place_put c.args.start c.loop-place.place c.loop-place.places c.put.new.self c.in_ok-put.ensures.ok c.loop-place.invariant.put;
+  from = let from = c.loop-place.invariant.from in omega (arith, from);
+  only = place_only c.args.start c.loop-place.place c.args.end c.args.places.now c.loop-place.places c.put.new.self c.in_ok-put.ensures.ok c.loop-place.invariant.from c.loop-place-test.true c.loop-place.invariant.only;
 }
 
 pub returns-clause-more : goal.returns-clause-more
@@ -16,3 +19,6 @@ returns-clause-more c = c.loop-place.invariant.more
 
 pub returns-clause-put : goal.returns-clause-put
 returns-clause-put c = λ p from below. let end = c.loop-place-test.false in c.loop-place.invariant.put p from (omega (arith, below, end))
+
+pub returns-clause-only : goal.returns-clause-only
+returns-clause-only c = c.loop-place.invariant.only

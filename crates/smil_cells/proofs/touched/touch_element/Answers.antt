@@ -2,13 +2,14 @@ use Rattle.std.proofs.Common.{◌≡◌, ◌∙◌, sym, ap, subst, None, Some, 
 use Rattle.std.proofs.lemmas.Result.{on_ok_weaker}
 use Rattle.std.specs.Prelude.{is_some}
 use Rattle.smil_model.specs.declared.document.Node.{Node}
-use Rattle.smil_model.specs.document.Document.{Document, elements, node_at, serial_of, time_children}
+use Rattle.smil_model.specs.document.Document.{Document, elements, is_within, node_at, serial_of, time_children}
 use Rattle.smil_model.specs.document.Closure.{has}
 use Rattle.smil_past.specs.Past.{history_of}
 use Rattle.smil_past.proofs.Listing.{known_at_place}
 use Rattle.smil_rounds.proofs.Current.{where_both}
-use Rattle.smil_cells.specs.Shown.{AreWithinPut, StayIn, any_rests, displaced_in, elements_at, shows_in}
+use Rattle.smil_cells.specs.Shown.{AreWithinPut, OnlyMore, StayIn, any_rests, displaced_in, elements_at, shows_in}
 use Rattle.smil_cells.proofs.Showing.{no_place, no_node_shows, shown_alone, shown_beside}
+use Rattle.smil_cells.proofs.Touching.{only_same, only_then, only_weaker, resting_shows, within_shows}
 use Rattle.smil_cells.proofs.touched.touch_element.Goals as goal
 
 pub touch_within-requires : goal.touch_within-requires
@@ -49,3 +50,26 @@ returns-in-Some-clause-shown c =
     (subst (λ (d : Document). AreWithinPut d.nodes c.args.who c.touch_within.new.touched) c.tree-tree.ensures c.in_ok-touch_within.ensures.within)
     (subst (λ (d : Document). Some c.in-Some.parent ≡ serial_of (displaced_in d.nodes c.args.step c.args.who)) c.tree-tree.ensures c.in-Some.ensures.value)
     more beside)
+
+pub returns-then-is_none-clause-only : goal.returns-then-is_none-clause-only
+returns-then-is_none-clause-only c = only_same c.args.past.now.document.nodes c.args.touched.now _
+
+pub returns-in-None-clause-only : goal.returns-in-None-clause-only
+returns-in-None-clause-only c =
+    let h = history_of c.args.past.now in
+    only_weaker h.nodes c.args.touched.now c.touch_within.new.touched (is_within h.nodes c.args.who) (shows_in h c.args.step c.args.who)
+    (subst (λ (d : Document). OnlyMore d.nodes c.args.touched.now c.touch_within.new.touched (is_within d.nodes c.args.who)) c.tree-tree.ensures c.in_ok-touch_within.ensures.only)
+    (within_shows h c.args.step c.args.who)
+
+pub returns-in-Some-clause-only : goal.returns-in-Some-clause-only
+returns-in-Some-clause-only c =
+    let h = history_of c.args.past.now in
+    on_ok_weaker c.touch_resting.result
+    (λ only.
+    only_then h.nodes c.args.touched.now c.touch_within.new.touched c.touch_resting.new.touched (shows_in h c.args.step c.args.who) (any_rests h (time_children h.nodes c.in-Some.parent))
+    (only_weaker h.nodes c.args.touched.now c.touch_within.new.touched (is_within h.nodes c.args.who) (shows_in h c.args.step c.args.who)
+    (subst (λ (d : Document). OnlyMore d.nodes c.args.touched.now c.touch_within.new.touched (is_within d.nodes c.args.who)) c.tree-tree.ensures c.in_ok-touch_within.ensures.only)
+    (within_shows h c.args.step c.args.who))
+    only
+    (λ s. resting_shows h c.args.step c.args.who c.in-Some.parent s (subst (λ (d : Document). Some c.in-Some.parent ≡ serial_of (displaced_in d.nodes c.args.step c.args.who)) c.tree-tree.ensures c.in-Some.ensures.value)))
+    c.touch_resting.ensures.only

@@ -1,9 +1,12 @@
-use Rattle.std.proofs.Common.{◌≡◌, ◌∙◌, sym, ap, subst, Some, true, false}
+use Rattle.std.proofs.Common.{◌≡◌, ◌∙◌, sym, subst, ℕ, true, false}
 use Rattle.std.proofs.lemmas.Result.{on_ok_weaker}
-use Rattle.std.specs.Prelude.{is_some}
-use Rattle.smil_model.specs.document.Document.{Document, node_at}
+use Rattle.std.specs.Prelude.{◌&&◌, is_some}
+use Rattle.std.proofs.lemmas.Bool.{and_from}
+use Rattle.smil_model.specs.document.Document.{Document, is_within, node_at}
 use Rattle.smil_instances.proofs.Targets.{known_node}
-use Rattle.smil_cells.specs.Shown.{AreWithinPut}
+use Rattle.smil_past.specs.Past.{history_of}
+use Rattle.smil_cells.specs.Shown.{AreWithinPut, OnlyMore, may_rest}
+use Rattle.smil_cells.proofs.Touching.{only_same, only_weaker}
 use Rattle.smil_cells.proofs.touched.touch_where_resting.Goals as goal
 
 pub touch_within-requires : goal.touch_within-requires
@@ -20,3 +23,15 @@ pub returns-else-may_rest-clause-put : goal.returns-else-may_rest-clause-put
 returns-else-may_rest-clause-put c = λ n here rests.
     let never : false ≡ true = sym c.if-may_rest.false ∙ c.may_rest.ensures n here ∙ rests in
     cc
+
+pub returns-then-may_rest-clause-only : goal.returns-then-may_rest-clause-only
+returns-then-may_rest-clause-only c =
+    on_ok_weaker {P = OnlyMore c.tree.result.now.nodes c.args.touched.now c.touch_within.new.touched (is_within c.tree.result.now.nodes c.args.who)} c.touch_within.result
+    (λ only n here.
+    only_weaker c.args.past.now.document.nodes c.args.touched.now c.touch_within.new.touched (is_within c.args.past.now.document.nodes c.args.who) (λ (s : ℕ). may_rest (history_of c.args.past.now) n && is_within c.args.past.now.document.nodes c.args.who s)
+    (subst (λ (d : Document). OnlyMore d.nodes c.args.touched.now c.touch_within.new.touched (is_within d.nodes c.args.who)) c.tree.ensures only)
+    (λ s within. and_from _ _ (sym (c.may_rest.ensures n here) ∙ c.if-may_rest.true) within))
+    c.touch_within.ensures.only
+
+pub returns-else-may_rest-clause-only : goal.returns-else-may_rest-clause-only
+returns-else-may_rest-clause-only c = λ n here. only_same c.args.past.now.document.nodes c.args.touched.now _

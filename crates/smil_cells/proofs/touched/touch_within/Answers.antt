@@ -6,6 +6,7 @@ use Rattle.smil_model.specs.document.Document.{is_within}
 use Rattle.smil_model.specs.document.Closure.{has}
 use Rattle.smil_cells.proofs.Ordering.{range_put}
 use Rattle.smil_cells.proofs.Showing.{within_there}
+use Rattle.smil_cells.proofs.Touching.{within_only}
 use Rattle.smil_cells.proofs.touched.touch_within.Goals as goal
 
 pub returns-clause-within : goal.returns-clause-within
@@ -18,3 +19,9 @@ returns-clause-within c =
     range_put nodes c.args.tree.now.next c.valid.ensures.numbered start end e.serial (filter (λ (n : Node). is_within nodes c.args.who n.serial) nodes) c.put_range.new.places
     c.span-start.ensures.within all (ap (λ o. is_some o) here) (within_there nodes c.args.who e here q))
     c.put_range.ensures.put
+
+pub returns-clause-only : goal.returns-clause-only
+returns-clause-only c =
+    on_ok_weaker c.put_range.result
+    (within_only c.args.tree.now.nodes c.args.tree.now.next c.valid.ensures.numbered c.span-start.result.0 c.span-start.result.1 c.args.who c.args.touched.now c.put_range.new.places c.span-start.ensures.within)
+    c.put_range.ensures.only

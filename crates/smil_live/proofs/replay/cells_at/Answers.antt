@@ -1,4 +1,4 @@
-use Rattle.std.proofs.Common.{◌≡◌, ◌≤◌, ◌≤ℤ◌, ◌∙◌, ap, sym, subst, pos, ℤ, List, length, arith, to_z, of_z, w64, true, Some, None}
+use Rattle.std.proofs.Common.{◌≡◌, ◌≤◌, ◌≤ℤ◌, ◌∙◌, refl, ap, sym, subst, pos, ℤ, List, length, arith, to_z, of_z, w64, true, Some, None}
 use Rattle.std.specs.Prelude.{nat_abs, ◌⊎◌}
 use Rattle.std.proofs.lemmas.Int.{ints, to_z-of_z}
 use Rattle.smil_model.specs.declared.diary.Entry.{Entry}
@@ -22,18 +22,17 @@ diary_until-len-requires g c =
     subst (λ (l : List Entry). is_rising_from (pos 0) l ≡ true) (ap (λ (h : History). h.diary) c.past.ensures ∙ sym c.book.ensures) c.possible.ensures.lawful.moments
 
 -- the entries up to it
-back : (g : Over) (c : After-diary_until-len g) → IsBack c.args.cells.now c.in_ok-doc.doc c.args.to c.diary_until-len.result
+back : (g : Over) (c : After-diary_until-len g) → IsBack c.args.cells.now c.args.to c.diary_until-len.result
 back g c = record {
   state = c.requires.state;
   replayed = c.requires.replayed;
-  same = c.in_ok-doc.ensures.doc ∙ c.tree.ensures;
   before = back_by c.args.to c.args.cells.now.presentation.now c.requires.from c.requires.back;
   within = subst (λ (l : List Entry). c.diary_until-len.result ≤ length l) c.book.ensures c.diary_until-len.ensures.within;
   first = until_same c.diary_until-len.result c.book.result.now c.args.cells.now.diary c.args.to (to_z w64 (of_z w64 c.args.to)) c.book.ensures (to_z-of_z w64 c.args.to c.ranges.to) c.requires.from c.diary_until-len.ensures.first;
 }
 
-pub rebuilt-requires : goal.rebuilt-requires
-rebuilt-requires g c = may_go_back (back g (goal.at.rebuilt-requires g c).After-diary_until-len)
+pub front-requires : goal.front-requires
+front-requires g c = may_go_back (back g (goal.at.front-requires g c).After-diary_until-len)
 
 pub settle-requires-clause-from : goal.settle-requires-clause-from
 settle-requires-clause-from g c =
@@ -54,13 +53,12 @@ returns-clause-ok g c = arrived_back (back g (goal.at.returns-clause-ok g c).Aft
 pub returns-clause-most : goal.returns-clause-most
 returns-clause-most g c =
     most_back (back g (goal.at.returns-clause-most g c).After-diary_until-len) c.in_ok-earlier.ensures.rebuilt (settled_at g (goal.at.returns-clause-most g c).In_ok-settle) c.in_ok-settle.ensures.settled c.in_ok-settle.ensures.goes_on
-    g.T.Table.counts c.args.steps.now c.rebuilt.new.steps c.settle.new.steps c.rebuilt.ensures.counted c.settle.ensures.counted c.rebuilt.ensures.most c.in_ok-settle.ensures.most
+    g.T.Table.counts c.args.steps.now c.front.new.steps c.settle.new.steps c.front.ensures.counted c.settle.ensures.counted c.front.ensures.most c.in_ok-settle.ensures.most
 
 pub returns-clause-least : goal.returns-clause-least
 returns-clause-least g c =
-    let same = c.in_ok-doc.ensures.doc ∙ c.tree.ensures in
-    least_anew g.T.Table.counts (sought_of c.args.cells.now.presentation c.args.to) c.in_ok-doc.doc c.in_ok-earlier.earlier c.settle.new.self c.args.steps.now c.rebuilt.new.steps c.settle.new.steps (returns-clause-ok g c)
-    (c.in_ok-earlier.ensures.rebuilt.document_is ∙ same) same c.rebuilt.ensures.counted c.settle.ensures.counted c.in_ok-earlier.ensures.least c.in_ok-settle.ensures.least
+    least_anew g.T.Table.counts (sought_of c.args.cells.now.presentation c.args.to) c.args.cells.now.presentation.document c.in_ok-earlier.earlier c.settle.new.self c.args.steps.now c.front.new.steps c.settle.new.steps (returns-clause-ok g c)
+    c.in_ok-earlier.ensures.rebuilt.document_is refl c.front.ensures.counted c.settle.ensures.counted c.in_ok-earlier.ensures.least c.in_ok-settle.ensures.least
 
 pub returns-in_err-settle-clause-refused : goal.returns-in_err-settle-clause-refused
 returns-in_err-settle-clause-refused g c =

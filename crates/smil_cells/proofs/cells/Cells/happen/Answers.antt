@@ -16,13 +16,16 @@ use Rattle.smil_element.specs.Parts.{coming_meant, meant}
 use Rattle.smil_element.proofs.Latest.{present_fits}
 use Rattle.smil_cells.specs.CellsState.{CellsState, IsFront, IsNext, IsRefusing, WhereTold, first_at, fresh_since}
 use Rattle.smil_rounds.specs.Appended.{MayAppendAll}
-use Rattle.smil_cells.specs.Shown.{elements_at, touched_at}
+use Rattle.smil_cells.specs.Evaluated.{HasEvaluatedBehind}
+use Rattle.smil_cells.specs.Shown.{TouchesOnly, elements_at, touched_at}
 use Rattle.smil_cells.specs.Standings.{IsSound, IsSoundUnderMark, standing_of}
 use Rattle.smil_cells.proofs.Refusals.{refused_by}
 use Rattle.smil_cells.proofs.Longer.{kept, refusing, with_entries}
 use Rattle.smil_cells.proofs.Grown.{ComesNext, all_now, came_to, fronted, grows_by, least_fresh, made_now, many_now, may, next_steps, reached_after, some_now, stepped}
 use Rattle.smil_cells.proofs.Putting.{stay_before, stay_listed}
-use Rattle.smil_cells.proofs.Ordering.{still_stands}
+use Rattle.smil_cells.proofs.Evaluating.{evaluated_behind}
+use Rattle.smil_cells.proofs.Touching.{front_of, touches_only}
+use Rattle.smil_cells.proofs.Ordering.{nothing, still_stands}
 use Rattle.smil_rounds.proofs.Following.{of_element}
 use Rattle.smil_rounds.proofs.Moments.{positive, present_with}
 use Rattle.smil_cells.proofs.cells.Cells.happen.Given.{Over}
@@ -184,3 +187,27 @@ returns-in_err-put_nodes-clause-refused g c =
     (λ f p. subst (λ (k : AnyFault). IsRefusing before new k) (sym p)
     (refusing i.past c.append_all.new.past (with_entries i.past c.append_all.new.past _ c.in_default.ensures.ok) c.self.invariant.lens i.moment i.fault book_fault.Memory i.mark i.touched i.touched))
     c.from_residual-in_err-put_nodes.ensures.1)
+
+pub returns-clause-evaluated : goal.returns-clause-evaluated
+returns-clause-evaluated g c =
+    let i = c.self.inside in
+    let all = goal.at.returns-clause-evaluated g c in
+    let new = c.append_all.new.past in
+    let begins = c.len-from.ensures.value ∙ ap (λ (l : List AnyEntry). length l) c.book.ensures in
+    subst (λ (s : CellsState). WhereTold g.T.Table.counts (HasEvaluatedBehind s (standing_of new i.moment None i.mark i.touched) (c.refresh.new.steps - c.args.steps.now))) c.self.view_is
+    (evaluated_behind i.past new i.moment _ i.fault i.mark i.touched i.touched c.len-from.result (c.refresh.new.steps - c.args.steps.now) begins
+    (front_of i.past.diary _ new.diary c.len-from.result (ap (λ (x : MarkedHistory). x.diary) (grown g all.After-possible)) begins)
+    (whole _ _ c.self.invariant.present ∙ positive i.moment c.self.invariant.present.from) g.T.Table.counts c.in_ok-refresh.ensures.evaluated)
+
+pub returns-clause-only : goal.returns-clause-only
+returns-clause-only g c =
+    let i = c.self.inside in
+    let all = goal.at.returns-clause-only g c in
+    let new = c.append_all.new.past in
+    let begins = c.len-from.ensures.value ∙ ap (λ (l : List AnyEntry). length l) c.book.ensures in
+    subst (λ (s : CellsState). TouchesOnly (touched_at s c.args.places.now) (touched_at (standing_of new i.moment None i.mark i.touched) c.put_nodes.new.places)) c.self.view_is
+    (touches_only i.past new i.moment _ i.fault i.mark i.touched c.len-from.result (ap (λ (x : MarkedHistory). x.document) (grown g all.After-possible)) begins
+    (front_of i.past.diary _ new.diary c.len-from.result (ap (λ (x : MarkedHistory). x.diary) (grown g all.After-possible)) begins)
+    (whole _ _ c.self.invariant.present ∙ positive i.moment c.self.invariant.present.from)
+    c.args.places.now c.touch.new.touched c.put_nodes.new.places _ c.refresh.new.changed i.touched c.tree.result.now c.tree.ensures (c.cut_back.ensures ∙ nothing i.changed)
+    c.in_ok-touch.ensures.only c.in_ok-put_nodes.ensures.only c.in_ok-refresh.ensures.told)

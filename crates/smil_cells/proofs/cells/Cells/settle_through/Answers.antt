@@ -11,6 +11,7 @@ use Rattle.smil_diary.specs.declared.fault.BookFault.TheVariants.{Memory}
 use Rattle.smil_cells.specs.Shown.{elements_at, touched_at}
 use Rattle.smil_cells.specs.Standings.{standing_of}
 use Rattle.smil_cells.proofs.Putting.{passed_at}
+use Rattle.smil_cells.proofs.Evaluating.{evaluated_from, evaluated_on, evaluated_still, none_evaluated, none_touched, touched_at_rest, touched_on}
 use Rattle.smil_cells.proofs.cells.Cells.settle_through.Given.{Over}
 use Rattle.smil_cells.proofs.cells.Cells.settle_through.Goals as goal
 
@@ -24,6 +25,8 @@ loop-coming-init g c =
       omega arith,
       nothing_reached s g.T.Table.counts c.args.steps.now,
       nothing_fresh s g.T.Table.counts c.args.steps.now,
+      none_evaluated (touched_at s c.args.places) g.T.Table.counts c.args.steps.now,
+      none_touched (touched_at s c.args.places),
     )
 
 pub loop-coming-smaller : goal.loop-coming-smaller
@@ -52,6 +55,8 @@ loop-coming-preserved g c =
       no_fewer a c.loop-coming.steps c.happen.new.steps v.3 e.counted,
       reached_on old s t u until v.0 passed c.come_to.ensures.within e.next a c.loop-coming.steps c.happen.new.steps g.T.Table.counts v.3 e.counted v.4 e.most,
       fresh_on old s t u until v.0 passed c.come_to.ensures.within e.next a c.loop-coming.steps c.happen.new.steps g.T.Table.counts v.3 e.counted v.5 e.least,
+      evaluated_on old s t u until v.0 passed e.next a c.loop-coming.steps c.happen.new.steps g.T.Table.counts v.3 e.counted v.6 e.evaluated,
+      touched_on old s t u until v.0 passed e.next v.7 e.only,
     )
 
 pub returns-in-Err-clause-full : goal.returns-in-Err-clause-full
@@ -109,3 +114,16 @@ returns-clause-least g c =
     subst (λ (n : ℕ). WhereTold g.T.Table.counts (n ≤ c.loop-coming.steps - c.args.steps.now))
     (sym (fresh_at_rest (touched_at c.args.self.now c.args.places) (touched_at c.loop-coming.self c.loop-coming.places) c.pass_to.new.self (to_z w64 (of_z w64 c.args.until)) c.loop-coming.invariant.0 (at_rest g c)))
     c.loop-coming.invariant.5
+
+pub returns-clause-evaluated : goal.returns-clause-evaluated
+returns-clause-evaluated g c =
+    let old = touched_at c.args.self.now c.args.places in
+    let s = touched_at c.loop-coming.self c.loop-coming.places in
+    let t = c.pass_to.new.self in
+    let n = c.loop-coming.steps - c.args.steps.now in
+    let rest = at_rest g c in
+    evaluated_from old c.args.self.now t g.T.Table.counts n refl refl
+    (evaluated_still old s t g.T.Table.counts n (ap (λ (p : Presentation). p.log) rest.presentation_is) rest.diary_is c.loop-coming.invariant.6)
+
+pub returns-clause-only : goal.returns-clause-only
+returns-clause-only g c = touched_at_rest (touched_at c.args.self.now c.args.places) (touched_at c.loop-coming.self c.loop-coming.places) c.pass_to.new.self (at_rest g c) c.loop-coming.invariant.7

@@ -12,14 +12,17 @@ use Rattle.smil_past.specs.Past as past_of
 use Rattle.smil_past.specs.Past.{MarkedHistory}
 use Rattle.smil_element.proofs.Latest.{present_fits}
 use Rattle.smil_cells.specs.CellsState.{CellsState, IsFront, IsHeard, IsRefusing, NothingBefore, WhereTold, fresh_since, with_logged}
-use Rattle.smil_cells.specs.Shown.{elements_at, touched_at}
+use Rattle.smil_cells.specs.Evaluated.{HasEvaluatedBehind}
+use Rattle.smil_cells.specs.Shown.{TouchesOnly, elements_at, touched_at}
 use Rattle.smil_cells.specs.Standings.{IsSound, IsSoundUnderMark, standing_of}
 use Rattle.smil_rounds.proofs.Moments.{positive}
 use Rattle.smil_cells.proofs.Longer.{kept, refusing, with_entry}
-use Rattle.smil_cells.proofs.Ordering.{still_stands}
+use Rattle.smil_cells.proofs.Ordering.{nothing, still_stands}
 use Rattle.smil_cells.proofs.Putting.{stay_before, stay_listed}
+use Rattle.smil_cells.proofs.Evaluating.{evaluated_behind}
+use Rattle.smil_cells.proofs.Touching.{front_of, touches_only}
 use Rattle.smil_cells.proofs.Refusals.{refused_by}
-use Rattle.smil_cells.proofs.Hearing.{present_heard, is_log_heard, may_hear, sound_heard, front_heard, current_before, came_heard, least_heard}
+use Rattle.smil_cells.proofs.Hearing.{present_heard, is_log_heard, may_hear, sound_heard, front_heard, current_before, came_heard, least_heard, step_heard}
 use Rattle.smil_cells.proofs.cells.Cells.take_in.Given.{Over}
 use Rattle.smil_cells.proofs.cells.Cells.take_in.Goals as goal
 use Rattle.smil_cells.proofs.cells.Cells.take_in.Goals.{After-len-from, After-possible}
@@ -130,7 +133,7 @@ returns-clause-heard g c =
     let after = elements_at new.document.nodes c.put_nodes.new.places in
     subst (λ (s : CellsState). IsHeard (touched_at s c.args.places.now) c.args.entry (standing_of new i.moment None i.mark after)) c.self.view_is
     (came_heard i.past i.moment c.args.entry i.fault i.mark was b.was.state b.was.reached b.here c.reached_is_past.ensures c.log_may_be_longer.ensures c.len-from.result _ b.now (c.len-from.ensures.value ∙ ap (λ (l : List AnyEntry). length l) c.book.ensures) mid after
-    c.self.invariant.lens (still_stands new.document.nodes c.touch.new.touched c.put_nodes.new.places c.in_ok-put_nodes.ensures.more)
+    c.self.invariant.lens (step_heard i.past i.moment c.args.entry i.fault i.mark was b.was.state b.was.reached b.here c.reached_is_past.ensures c.log_may_be_longer.ensures c.reaches_further.ensures b.quiet) (still_stands new.document.nodes c.touch.new.touched c.put_nodes.new.places c.in_ok-put_nodes.ensures.more)
     new c.in_default.ensures.ok (stay_listed i.past.document new same c.args.places.now c.touch.new.touched c.in_ok-touch.ensures.more) c.in_ok-touch.ensures.shown
     (stay_before _ c.len-from.result c.refresh.new.changed c.put_nodes.new.places new c.tree.result.now c.tree.ensures c.in_ok-put_nodes.ensures.put c.in_ok-refresh.ensures.changed))
 
@@ -151,3 +154,27 @@ returns-in_err-put_nodes-clause-refused g c =
     (λ f p. subst (λ (k : BookFault). IsRefusing before new k) (sym p)
     (refusing i.past c.hear.new.self (with_entry i.past c.hear.new.self c.args.entry c.in_default.ensures.ok) c.self.invariant.lens i.moment i.fault book_fault.Memory i.mark i.touched i.touched))
     c.from_residual-in_err-put_nodes.ensures.1)
+
+pub returns-clause-evaluated : goal.returns-clause-evaluated
+returns-clause-evaluated g c =
+    let i = c.self.inside in
+    let b = before g (goal.at.returns-clause-evaluated g c).After-len-from in
+    let new = c.hear.new.self in
+    let begins = c.len-from.ensures.value ∙ ap (λ (l : List AnyEntry). length l) c.book.ensures in
+    subst (λ (s : CellsState). WhereTold g.T.Table.counts (HasEvaluatedBehind s (standing_of new i.moment None i.mark i.touched) (c.refresh.new.steps - c.args.steps.now))) c.self.view_is
+    (evaluated_behind i.past new i.moment _ i.fault i.mark i.touched i.touched c.len-from.result (c.refresh.new.steps - c.args.steps.now) begins
+    (front_of i.past.diary _ new.diary c.len-from.result (ap (λ (x : MarkedHistory). x.diary) c.in_default.ensures.ok) begins)
+    b.now g.T.Table.counts c.in_ok-refresh.ensures.evaluated)
+
+pub returns-clause-only : goal.returns-clause-only
+returns-clause-only g c =
+    let i = c.self.inside in
+    let b = before g (goal.at.returns-clause-only g c).After-len-from in
+    let new = c.hear.new.self in
+    let begins = c.len-from.ensures.value ∙ ap (λ (l : List AnyEntry). length l) c.book.ensures in
+    subst (λ (s : CellsState). TouchesOnly (touched_at s c.args.places.now) (touched_at (standing_of new i.moment None i.mark i.touched) c.put_nodes.new.places)) c.self.view_is
+    (touches_only i.past new i.moment _ i.fault i.mark i.touched c.len-from.result (ap (λ (x : MarkedHistory). x.document) c.in_default.ensures.ok) begins
+    (front_of i.past.diary _ new.diary c.len-from.result (ap (λ (x : MarkedHistory). x.diary) c.in_default.ensures.ok) begins)
+    b.now
+    c.args.places.now c.touch.new.touched c.put_nodes.new.places _ c.refresh.new.changed i.touched c.tree.result.now c.tree.ensures (c.cut_back.ensures ∙ nothing i.changed)
+    c.in_ok-touch.ensures.only c.in_ok-put_nodes.ensures.only c.in_ok-refresh.ensures.told)

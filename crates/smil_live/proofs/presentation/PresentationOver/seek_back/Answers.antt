@@ -1,10 +1,11 @@
-use Rattle.std.proofs.Common.{◌≡◌, ◌-◌, ◌≤◌, inl, refl, sym, subst, ℤ, to_z, of_z, w64, drop, length}
+use Rattle.std.proofs.Common.{◌≡◌, ◌-◌, ◌≤◌, ◌++◌, inl, refl, sym, subst, ℤ, to_z, of_z, w64, drop, length}
+use Rattle.std.specs.Prelude.{OnOk}
 use Rattle.std.proofs.lemmas.Int.{to_z-of_z}
 use Rattle.std.proofs.lemmas.Result.{IfErr-weaker}
 use Rattle.smil_model.specs.declared.order.Order.TheVariants as order
 use Rattle.smil_model.specs.declared.order.Refusal.TheVariants as refusal
 use Rattle.smil_model.specs.shown.Answers.{Refuses, gone_text}
-use Rattle.smil_model.specs.shown.Orders.{IsState, changes_between}
+use Rattle.smil_model.specs.shown.Orders.{IsState, Presentation, changes_between}
 use Rattle.smil_grammar.specs.Formats.{formats}
 use Rattle.smil_tree.proofs.Results.{on_err}
 use Rattle.smil_cells.specs.CellsState.{WhereTold}
@@ -29,16 +30,23 @@ take_over-requires-clause-replayed g c = replayed_own _ c.in_ok-cells.cells c.in
 replayed : (g : Over) (c : After-take_over g) → IsReplayed (sought_of c.args.self.now c.args.to) c.in_ok-cells.cells
 replayed g c = subst (λ (z : ℤ). IsReplayed (sought_of c.args.self.now z) c.in_ok-cells.cells) (to_z-of_z w64 c.args.to c.ranges.to) c.in_ok-cells.ensures.ok
 
+-- what is told is what differs from the presentation as it was
+told : (g : Over) (c : After-take_over g) → OnOk c.take_over.result
+    (c.take_over.new.out ≡ c.args.out.now ++ gone_text c.args.self.now c.in_ok-cells.cells.presentation ++ text_of c.in_ok-cells.cells.presentation (changes_between c.args.self.now c.in_ok-cells.cells.presentation))
+told g c =
+    let q = c.in_ok-cells.cells.presentation in
+    subst (λ (p : Presentation). OnOk c.take_over.result (c.take_over.new.out ≡ c.args.out.now ++ gone_text p q ++ text_of q (changes_between p q))) c.made_at.ensures.same c.take_over.ensures.told
+
 pub returns-clause-ok : goal.returns-clause-ok
 returns-clause-ok g c =
     let p = c.args.self.now in
     let state : IsState (sought_of p c.args.to) = subst (λ (z : ℤ). IsState (sought_of p z)) (to_z-of_z w64 c.args.to c.ranges.to) c.made_at.ensures.state in
-    on_both c.take_over.result (sought_anew p c.take_over.new.self c.in_ok-cells.cells c.args.to c.args.out.now c.take_over.new.out state (replayed g (goal.at.returns-clause-ok g c).After-take_over)) c.take_over.ensures.state c.take_over.ensures.told
+    on_both c.take_over.result (sought_anew p c.take_over.new.self c.in_ok-cells.cells c.args.to c.args.out.now c.take_over.new.out state (replayed g (goal.at.returns-clause-ok g c).After-take_over)) c.take_over.ensures.state (told g (goal.at.returns-clause-ok g c).After-take_over)
 
 pub returns-clause-appended : goal.returns-clause-appended
 returns-clause-appended g c =
     let q = c.in_ok-cells.cells.presentation in
-    appended_both c.take_over.result c.args.out.now c.take_over.new.out (gone_text c.args.self.now q) (text_of q (changes_between c.args.self.now q)) c.take_over.ensures.told
+    appended_both c.take_over.result c.args.out.now c.take_over.new.out (gone_text c.args.self.now q) (text_of q (changes_between c.args.self.now q)) (told g (goal.at.returns-clause-appended g c).After-take_over)
 
 pub returns-clause-refused : goal.returns-clause-refused
 returns-clause-refused g c =

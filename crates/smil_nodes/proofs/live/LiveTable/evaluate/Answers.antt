@@ -39,8 +39,8 @@ within g c =
     let count : length rows ≡ length (elements c.args.present.now.past.now.document.nodes) = rows_count c.args.present.now.past.now.document.nodes rows c.requires.of_elements in
     omega (arith, count, (found_row g c).within)
 
-pub row-before-requires : goal.row-before-requires
-row-before-requires g c = within g (goal.at.row-before-requires g c).After-unwrap-index
+pub row-requires : goal.row-requires
+row-requires g c = within g (goal.at.row-requires g c).After-unwrap-index
 
 pub replace-requires-clause-index : goal.replace-requires-clause-index
 replace-requires-clause-index g c = within g (goal.at.replace-requires-clause-index g c).After-unwrap-index
@@ -58,9 +58,9 @@ row_is g c =
     let rows = c.args.self.now.schedule in
     let k = c.unwrap-index.result in
     let at = found_then g c in
-    let own : c.row-before.result.serial ≡ c.in_ok-row.row.serial =
-    first_serial _ rows k c.row-before.result at.first c.row-before.ensures.row ∙ sym ((c.in_ok-row.ensures.row at.element at.node).serial ∙ at.is_who) in
-    c.in_ok-replace.ensures.put ∙ row_set rows k c.row-before.result c.in_ok-row.row c.row-before.ensures.row own
+    let own : c.row.result.now.serial ≡ c.in_ok-row.row.serial =
+    first_serial _ rows k c.row.result.now at.first c.row.ensures.row ∙ sym ((c.in_ok-row.ensures.row at.element at.node).serial ∙ at.is_who) in
+    c.in_ok-replace.ensures.put ∙ row_set rows k c.row.result.now c.in_ok-row.row c.row.ensures.row own
 
 pub returns-clause-taken : goal.returns-clause-taken
 returns-clause-taken g c =
@@ -74,7 +74,7 @@ returns-clause-same g c =
     let rows = c.args.self.now.schedule in
     let at = found_then g all in
     let own = own_interval _ rows _ _ c.in_ok-row.row at (c.in_ok-row.ensures.row at.element at.node).serial c.replace.new.self.schedule (row_is g all) in
-    let before : interval_in rows c.args.present.now.who ≡ c.row-before.result.interval = interval_at _ rows _ c.row-before.result at.first c.row-before.ensures.row in (
+    let before : interval_in rows c.args.present.now.who ≡ c.row.result.now.interval = interval_at _ rows _ c.row.result.now at.first c.row.ensures.row in (
       λ unchanged. own ∙ sym (before ∙ c.is_same_interval.ensures.0 (not-false c.is_same_interval.result unchanged)),
       λ same. ap not (c.is_same_interval.ensures.1 (sym before ∙ sym same ∙ own)),
     )

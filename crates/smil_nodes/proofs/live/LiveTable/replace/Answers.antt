@@ -1,10 +1,10 @@
-use Rattle.std.proofs.Common.{◌≡◌, ◌∙◌, ap, sym, true, false}
+use Rattle.std.proofs.Common.{◌≡◌, ◌∙◌, ap, sym, refl, true, false}
 use Rattle.smil_nodes.specs.declared.live.LiveTable.{LiveTable}
 use Rattle.smil_nodes.specs.declared.undo.Note.{Note}
 use Rattle.smil_nodes.specs.Endings.{put_ending}
 use Rattle.smil_nodes.specs.Marked.{back_from}
 use Rattle.smil_nodes.specs.Schedule.{row_put}
-use Rattle.smil_nodes.specs.Undo.{Kept, all_back}
+use Rattle.smil_nodes.specs.Undo.{Kept, all_back, note_of}
 use Rattle.smil_nodes.proofs.Among.{put_back}
 use Rattle.smil_nodes.proofs.Undone.{back_kept, back_noted, put_at, row_same, there}
 use Rattle.smil_nodes.proofs.live.LiveTable.replace.Goals as goal
@@ -12,7 +12,7 @@ use Rattle.smil_nodes.proofs.live.LiveTable.replace.Goals.{then-self+in_ok-note,
 
 pub returns-then-is_there-clause-put : goal.returns-then-is_there-clause-put
 returns-then-is_there-clause-put c =
-    sym (row_same c.args.self.now.schedule c.args.index c.args.row (c.is_there.ensures c.if-is_there.true).0)
+    sym (row_same c.args.self.now.schedule c.args.index c.args.row.now (c.is_there.ensures c.if-is_there.true).0)
 
 pub returns-then-is_there-clause-ended : goal.returns-then-is_there-clause-ended
 returns-then-is_there-clause-ended c =
@@ -23,22 +23,22 @@ pub returns-in_err-note-clause-back : goal.returns-in_err-note-clause-back
 returns-in_err-note-clause-back c = λ marked.
     let rows = c.args.self.now.schedule in
     let ends = c.args.self.now.endings in
-    let note : Note = record { index = c.args.index; interval = c.row-before.result.interval; comings = c.row-before.result.comings; ending = c.ending.result } in
-    back_kept (record { rows = rows; ends = ends }) c.args.self.now.undo c.note.new.self note (there rows ends c.args.index c.row-before.result c.ending.result c.row-before.ensures.row c.ending.ensures) c.note.ensures.grown
+    let note = note_of c.args.index c.row.result.now ends in
+    back_kept (record { rows = rows; ends = ends }) c.args.self.now.undo c.note.new.self note (there rows ends c.args.index c.row.result.now note.ending c.row.ensures.row refl) c.note.ensures.grown
 
 pub returns-clause-back : goal.returns-clause-back
 returns-clause-back c = λ marked.
     let rows = c.args.self.now.schedule in
     let ends = c.args.self.now.endings in
-    let next : Note = record { index = c.args.index; interval = c.args.row.interval; comings = c.args.row.comings; ending = c.args.ending } in
+    let next : Note = record { index = c.args.index; interval = c.args.row.now.interval; comings = c.args.row.now.comings; ending = c.args.ending } in
     elim c.if-self.branch [
       | then-self+in_ok-note w ↦
           (let kept : Kept = record { rows = rows; ends = ends } in
-          let note : Note = record { index = c.args.index; interval = w.row-before.result.interval; comings = w.row-before.result.comings; ending = w.ending.result } in
-          let put : c.put.new.self ≡ row_put rows c.args.index c.args.row.interval c.args.row.comings = c.put.ensures ∙ ap (λ (t : LiveTable). row_put t.schedule c.args.index c.args.row.interval c.args.row.comings) w.self-is in
+          let note = note_of c.args.index w.row.result.now ends in
+          let put : c.put.new.self ≡ row_put rows c.args.index c.args.row.now.interval c.args.row.now.comings = c.put.ensures ∙ ap (λ (t : LiveTable). row_put t.schedule c.args.index c.args.row.now.interval c.args.row.now.comings) w.self-is in
           let ended : c.put-2.new.self ≡ put_ending ends c.args.index c.args.ending = c.put-2.ensures ∙ ap (λ (t : LiveTable). put_ending t.endings c.args.index c.args.ending) w.self-is in
           (λ i. back_from c.if-self.self.undo (put i) (ended i))
           ∙ ap (λ (t : LiveTable). all_back (put_at kept c.args.index next) t.undo) w.self-is
-          ∙ back_noted kept c.args.self.now.undo w.note.new.self note next (there rows ends c.args.index w.row-before.result w.ending.result w.row-before.ensures.row w.ending.ensures) w.note.ensures.grown w.in_ok-note.ensures.noted)
+          ∙ back_noted kept c.args.self.now.undo w.note.new.self note next (there rows ends c.args.index w.row.result.now note.ending w.row.ensures.row refl) w.note.ensures.grown w.in_ok-note.ensures.noted)
       | else-self w ↦ (let never : true ≡ false = sym marked ∙ w.if-self.false in absurd (cc))
     ]

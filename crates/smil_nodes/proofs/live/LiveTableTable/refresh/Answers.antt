@@ -16,7 +16,8 @@ use Rattle.smil_rounds.proofs.Current.{ordered_element}
 use Rattle.smil_rounds.proofs.Taking.{unchanged_both, unchanged_none}
 use Rattle.smil_nodes.specs.Endings.{AreKnown}
 use Rattle.smil_nodes.specs.Marked.{GoesBack}
-use Rattle.smil_nodes.specs.Work.{AreChanged, AreSettled, HasSame, IsCounted, IsUnlisted, gap_from, is_later_reader}
+use Rattle.smil_cells.specs.Evaluated.{AreChanged}
+use Rattle.smil_nodes.specs.Work.{AreSettled, HasSame, IsCounted, IsUnlisted, gap_from, is_later_reader}
 use Rattle.smil_nodes.proofs.Gap.{gap_falls}
 use Rattle.smil_nodes.proofs.Listing.{taken_out}
 use Rattle.smil_nodes.proofs.Fixed.{current_intervals}

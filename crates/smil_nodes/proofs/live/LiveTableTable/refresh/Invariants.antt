@@ -5,7 +5,8 @@ use Rattle.smil_rounds.specs.Current.{interval_in}
 use Rattle.smil_rounds.specs.Round.{StayUnchanged}
 use Rattle.smil_nodes.specs.Endings.{AreKnown}
 use Rattle.smil_nodes.specs.Marked.{GoesBack}
-use Rattle.smil_nodes.specs.Work.{AreChanged, AreSettled, IsCounted, IsUnlisted, gap_from}
+use Rattle.smil_cells.specs.Evaluated.{AreChanged}
+use Rattle.smil_nodes.specs.Work.{AreSettled, IsCounted, IsUnlisted, gap_from}
 use Rattle.smil_nodes.proofs.live.LiveTableTable.refresh.Given as goal
 
 -- the elements that are not listed are settled, with their endings, and those that were evaluated are counted; the mark stays

@@ -1,4 +1,4 @@
-use Rattle.std.proofs.Common.{◌≡◌, ◌∙◌, ap, sym, subst, ◌*◌, ◌≤◌, length, map, arith}
+use Rattle.std.proofs.Common.{◌≡◌, ◌∙◌, ap, sym, subst, ◌≤◌, None, length, map, replicate, arith}
 use Rattle.std.specs.Prelude.{nat_eq}
 use Rattle.std.specs.List.{IsDistinct}
 use Rattle.smil_model.specs.document.Document.{elements}
@@ -6,7 +6,7 @@ use Rattle.smil_rounds.specs.Rows.{AreNear, empty_row}
 use Rattle.smil_rounds.proofs.Empty.{empty_near, empty_serials}
 use Rattle.smil_rounds.proofs.Paired.{serials_in}
 use Rattle.smil_nodes.specs.Schedule.{slots_of}
-use Rattle.smil_nodes.proofs.Counting.{elements_distinct}
+use Rattle.smil_cells.proofs.Distinct.{elements_distinct}
 use Rattle.smil_nodes.proofs.Slotted.{rows_few, slots_empty}
 use Rattle.smil_nodes.proofs.schedule.Schedule.of.Goals as goal
 
@@ -26,6 +26,7 @@ invariant_of-result c =
       apart = subst (IsDistinct nat_eq) (sym (ap serials_in c.in_ok-known.ensures ∙ empty_serials (elements nodes))) (elements_distinct nodes c.valid.ensures.numbered.distinct);
       slots_are =
           c.in_ok-due.ensures
-          ∙ slots_empty (elements nodes) (2 * length c.rows.result.now) (omega (arith, same))
+          ∙ ap (λ n. replicate n None) same
+          ∙ slots_empty (elements nodes)
           ∙ ap slots_of (sym c.in_ok-known.ensures);
     }

@@ -5,6 +5,6 @@ use Rattle.smil_past.proofs.chronicle.Chronicle.catch_up.Given as goal
 -- it has the first of the entries that it lacked
 abbrev pub invariant-loop-entry : goal.invariant-loop-entry
 invariant-loop-entry l = record {
-  lags : Lags l.fn.history.tree.now l.fn.history.log.now l.fn.history.book.now l.self;
+  lags : Lags l.tree l.log l.entries l.self;
   reached : length l.self.book ≡ length l.initial.self.book + l.entry-index;
 }

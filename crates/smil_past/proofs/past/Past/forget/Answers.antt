@@ -6,8 +6,7 @@ invariant_of-self c =
     let was = c.self.inside in
     let sound = c.self.invariant in
     record {
-      graph_is = sound.graph_is;
-      syncs_are = sound.syncs_are;
       tells = sound.tells;
-      backs_up = backs_unmarked was.tree was.log was.chronicle.book was.second sound.backs_up.lags;
+      kept_are = sound.kept_are;
+      backs_up = backs_unmarked was.document.value was.log was.chronicle.book was.second sound.backs_up.lags;
     }

@@ -8,10 +8,9 @@ invariant_of-self c =
     let was = c.self.inside in
     let sound = c.self.invariant in
     let book = was.chronicle.book in record {
-      graph_is = sound.graph_is;
-      syncs_are = sound.syncs_are;
       tells = sound.tells;
-      backs_up = subst (λ n. BacksUp was.tree was.log book was.second (Some (n, c.len-2.result))) (sym c.len.ensures)
-          (subst (λ n. BacksUp was.tree was.log book was.second (Some (length was.log, n))) (sym c.len-2.ensures.value)
-          (backs_here was.tree was.log book was.second sound.tells.possible sound.backs_up.lags));
+      kept_are = sound.kept_are;
+      backs_up = subst (λ n. BacksUp was.document.value was.log book was.second (Some (n, c.len-2.result))) (sym c.len.ensures)
+          (subst (λ n. BacksUp was.document.value was.log book was.second (Some (length was.log, n))) (sym c.len-2.ensures.value)
+          (backs_here was.document.value was.log book was.second sound.tells.possible sound.backs_up.lags));
     }

@@ -1,23 +1,38 @@
-use Rattle.std.proofs.Common.{ap, []}
+use Rattle.std.proofs.Common.{◌≡◌, ◌∙◌, sym, ap, subst, [], List, None}
 use Rattle.std.proofs.lemmas.Result.{IfOk-at_ok}
+use Rattle.smil_model.specs.document.Document.{Document}
+use Rattle.smil_instances.specs.Dependents.{AreDependentsOf}
+use Rattle.smil_past.specs.declared.kept.KeptReadings.{KeptReadings}
 use Rattle.smil_past.specs.Past.{unmarked}
 use Rattle.smil_past.specs.Chronicle.{TellsNothing}
+use Rattle.smil_past.specs.Kept.{AreKept, KeepsPast}
+use Rattle.smil_past.proofs.KeptFronts.{kept_none}
 use Rattle.smil_past.proofs.Seconds.{backs_none, lags_new}
 use Rattle.smil_past.proofs.past.Past.over.Goals as goal
+
+pub of-requires-clause-dependents : goal.of-requires-clause-dependents
+of-requires-clause-dependents c =
+    let nothing = IfOk-at_ok (TellsNothing c.args.graphed.tree c.args.log) c.in_ok-chronicle.was (c.new.ensures c.args.log) in
+    subst (AreDependentsOf c.args.graphed.tree.nodes) (sym c.dependents-dependents.ensures) nothing.readings_are.instances_are.dependents
 
 pub invariant_of-result : goal.invariant_of-result
 invariant_of-result c =
     let tree = c.args.graphed.tree in
     let log = c.args.log in
     let chronicle = c.in_ok-chronicle.chronicle in
-    let nothing = IfOk-at_ok (TellsNothing tree log) c.in_ok-chronicle.was (c.new.ensures log) in record {
-      graph_is = c.requires.graph;
-      syncs_are = c.in_ok-syncs.ensures;
+    let nothing = IfOk-at_ok (TellsNothing tree log) c.in_ok-chronicle.was (c.new.ensures log) in
+    let same : c.in_ok-new.field-0.value ≡ tree = c.in_ok-new.ensures.ok ∙ c.new-2.ensures in
+    subst (λ (d : Document). KeepsPast d log chronicle None None c.new-4.result.items) (sym same)
+    (record {
       tells = (lags_new tree log [] chronicle c.requires.possible nothing).tells;
       backs_up = backs_none tree log chronicle.book;
-    }
+      kept_are = subst (λ (ks : List KeptReadings). AreKept tree log chronicle.book ks) (sym c.new-4.ensures.items) (kept_none tree log chronicle.book);
+    })
 
 pub returns : goal.returns
 returns c =
-    let nothing = IfOk-at_ok (TellsNothing c.args.graphed.tree c.args.log) c.in_ok-chronicle.was (c.new.ensures c.args.log) in
-    ap (unmarked c.args.graphed.tree c.args.log) nothing.nothing
+    let tree = c.args.graphed.tree in
+    let log = c.args.log in
+    let nothing = IfOk-at_ok (TellsNothing tree log) c.in_ok-chronicle.was (c.new.ensures log) in
+    let same : c.in_ok-new.field-0.value ≡ tree = c.in_ok-new.ensures.ok ∙ c.new-2.ensures in
+    ap (λ (d : Document). unmarked d log c.in_ok-chronicle.chronicle.book) same ∙ ap (unmarked tree log) nothing.nothing

@@ -1,9 +1,11 @@
-use Rattle.std.proofs.Common.{◌∙◌, [], ◌∷◌, ◌++◌, ap, sym, subst}
+use Rattle.std.proofs.Common.{◌≡◌, ◌∙◌, true, false, [], ◌∷◌, ◌++◌, ap, sym, subst}
 use Rattle.std.specs.Prelude.{is_some}
 use Rattle.smil_past.specs.Past.{history_of}
 use Rattle.smil_rounds.specs.Current.{interval_in}
 use Rattle.smil_rounds.specs.Round.{StayUnchanged}
 use Rattle.smil_rounds.proofs.Taking.{IsFound, found, has_row, own_first, placed, taken_by, unchanged_pushed, unchanged_same}
+use Rattle.smil_plain.specs.Plain.{IsTold}
+use Rattle.smil_plain.proofs.Telling.{told_pushed, told_same}
 use Rattle.smil_plain.proofs.plain.PlainTable.take_one.Given.{Over}
 use Rattle.smil_plain.proofs.plain.PlainTable.take_one.Goals as goal
 use Rattle.smil_plain.proofs.plain.PlainTable.take_one.Goals.{After-unwrap-index, then-not-is_same_interval+in_ok-push, else-not-is_same_interval}
@@ -50,4 +52,20 @@ returns-clause-changed g c =
       | else-not-is_same_interval w ↦
           unchanged_same c.args.changed.now c.if-not-is_same_interval.changed rows c.unwrap-index.result row first w.changed-is
           (ap (interval_in rows) (own ∙ at.is_who) ∙ sym c.interval.ensures.value ∙ c.is_same_interval.ensures.0 w.if-not-is_same_interval.false)
+    ])
+
+pub returns-clause-told : goal.returns-clause-told
+returns-clause-told g c =
+    let rows = c.args.self.now.known in
+    let row = c.in_ok-row.row in
+    let at = found_row g (goal.at.returns-clause-told g c).After-unwrap-index in
+    let own = (c.in_ok-row.ensures.row at.element at.node).serial in
+    let first = own_first _ rows _ c.unwrap-index.result row at own in
+    subst (λ after. IsTold c.args.present.now.who c.args.changed.now c.if-not-is_same_interval.changed rows after) (sym c.put.ensures)
+    (elim c.if-not-is_same_interval.branch [
+      | then-not-is_same_interval+in_ok-push w ↦
+          told_pushed c.args.changed.now c.if-not-is_same_interval.changed rows c.unwrap-index.result c.args.present.now.who row first (own ∙ at.is_who) (w.changed-is ∙ w.in_ok-push.ensures.ok)
+          (λ same. let never : true ≡ false = sym (c.is_same_interval.ensures.1 (c.interval.ensures.value ∙ same)) ∙ w.if-not-is_same_interval.true in cc)
+      | else-not-is_same_interval w ↦
+          told_same c.args.changed.now c.if-not-is_same_interval.changed rows c.unwrap-index.result c.args.present.now.who row first (own ∙ at.is_who) w.changed-is
     ])
