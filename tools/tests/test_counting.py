@@ -9,7 +9,8 @@ import unittest
 
 from calling import TOP
 
-PROGRAMS = ("smilplay", "smil_sessions", "smil_plays", "smil_probe")
+# The library too counts the evaluations of a line by a counter made for it, since its caller is told of none.
+PROGRAMS = ("smilplay", "smil_sessions", "smil_plays", "smil_probe", "tenphsar")
 SEARCHES = re.compile(r"\b(?:first_interval|next_interval|interval_at)\b")
 COUNTERS = re.compile(r"\bBlank::new\b|\bSteps(?:::<\w+>)?::new\b|\.open::<")
 

@@ -12,6 +12,12 @@ MODULES = ("transcript.py", "session.py", "timeline_page.py", "smil_xml.py", "sm
            "timeline_states.py", "timeline_svg.py", "lint_shape.py", "lint_load.py", "lint_document.py", "lint_events.py")
 
 
+def dependencies():
+    """What each crate depends on, by its name."""
+    lines = [line.split(":") for line in (TOP / "crates.txt").read_text().splitlines()]
+    return {name.split()[0]: others.split() for name, others in lines}
+
+
 def headings_of(page):
     """The anchors of a page's headings."""
     return {re.sub(r"[^a-z0-9_ -]", "", line.lower()).strip().replace(" ", "-")
@@ -53,8 +59,7 @@ class Pages(unittest.TestCase):
     def test_every_crate_has_its_room_and_what_is_proved_of_it(self):
         rooms = (TOP / "docs" / "ARCHITECTURE.md").read_text()
         proved = (TOP / "docs" / "PROVED.md").read_text()
-        for line in (TOP / "crates.txt").read_text().splitlines():
-            crate = line.split(":")[0]
+        for crate in dependencies():
             self.assertRegex(rooms, rf"(?m)^\|[^|]*`{crate}`")
             self.assertRegex(proved, rf"(?m)^\|[^|]*\b{crate}\b")
 
@@ -65,10 +70,10 @@ class Pages(unittest.TestCase):
             words = line.split()
             floor = int(words.pop(0)) if words[0].isdigit() else floor
             floors.update(dict.fromkeys(words, floor))
-        uses = dict(line.split(":") for line in (TOP / "crates.txt").read_text().splitlines())
+        uses = dependencies()
         self.assertEqual(set(floors), set(uses))
         for crate, others in uses.items():
-            for other in set(others.split()) & set(floors):
+            for other in set(others) & set(floors):
                 self.assertGreater(floors[crate], floors[other], f"{crate} on {other}")
 
     def test_every_example_is_listed(self):
