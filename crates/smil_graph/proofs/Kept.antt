@@ -1,9 +1,8 @@
 -- What is kept by places is as the definitions say.
 use Rattle.std.proofs.Common.{◌≡◌, refl, sym, ◌∙◌, ap, ℕ, suc, zero, ◌<◌, ◌≤◌, ◌+◌, List, [], ◌∷◌, length, Bool, true, false, Option, Some, None, Result, Ok, Err, arith, inl, inr}
-use Rattle.std.specs.Prelude.{cond, map, ◌==◌, ◌||◌, ◌&&◌, ◌⊎◌, filter, slice_get, option_map}
+use Rattle.std.specs.Prelude.{cond, map, ◌==◌, ◌||◌, ◌&&◌, ◌⊎◌, IfSome, filter, slice_get, option_map}
 use Rattle.std.specs.Result.{IfOk}
 use Rattle.std.specs.List.{position, range_with_len}
-use Rattle.std.proofs.Math.ListN.{get_or-eq_default}
 use Rattle.std.proofs.lemmas.Bool.{or_cases, and_parts, eqb-true}
 use Rattle.smil_model.specs.declared.document.Node.{Node}
 use Rattle.smil_model.specs.declared.document.Item.{Item}
@@ -60,8 +59,10 @@ module _ (nodes : List Node) (tps : List (Option ℕ)) (table : IsTable nodes (�
   under_low : (p q : ℕ) → is_under p q ≡ true → q < p
   under_low p q e = table.before p q (place_is q (up tps p) (and_parts (is_element_at nodes p) (is_option q (up tps p)) e).1)
 
-  pub under_stay : (rows : List (List ℕ)) → AreRows (length nodes) (λ p q. is_element_at nodes p && is_option q (up tps p)) rows → StayBelow (length rows) rows
-  under_stay rows are = rows_stay (length nodes) (λ p q. is_element_at nodes p && is_option q (up tps p)) rows are (λ p q l e. omega (arith, l, under_low p q e))
+  -- the time parent of the node at a place has a row
+  pub under_known : (place : ℕ) (o : Option ℕ) → o ≡ up tps place → place < length nodes → IfSome o (λ q. q < length nodes)
+  under_known place None is l = tt
+  under_known place (Some q) is l = omega (arith, table.before place q (sym is), l)
 
   pub under_past : (q : ℕ) → length nodes ≤ q → [] ≡ filter (λ p. is_element_at nodes p && is_option q (up tps p)) (range_with_len 0 (length nodes))
   under_past q past = sym (filter_none (λ p. is_element_at nodes p && is_option q (up tps p)) (length nodes) 0 (λ k a h. no (is_under k q) k (omega (arith, h)) refl))
@@ -69,13 +70,6 @@ module _ (nodes : List Node) (tps : List (Option ℕ)) (table : IsTable nodes (�
       no : (t : Bool) (k : ℕ) → k < length nodes → is_under k q ≡ t → is_under k q ≡ false
       no true k l e = absurd (omega (arith, under_low k q e, l, past))
       no false k l e = e
-
-  pub under_are : (rows children : List (List ℕ)) → AreRows (length nodes) (λ p q. is_element_at nodes p && is_option q (up tps p)) rows → length children ≡ length rows → ((i : ℕ) → i < length rows → row children i ≡ that_have rows i) → AreTimeChildren nodes tps children
-  under_are rows children are long turned q = by_case (grind arith)
-    where
-      by_case : (q < length nodes) ⊎ (length nodes ≤ q) → row children q ≡ filter (λ p. is_element_at nodes p && is_option q (up tps p)) (range_with_len 0 (length nodes))
-      by_case (inl l) = turned_is (length nodes) (λ p q. is_element_at nodes p && is_option q (up tps p)) rows children are turned q l
-      by_case (inr l) = get_or-eq_default children [] (omega (arith, l, long, are.long)) ∙ under_past q l
 
   pub children_stay : (children : List (List ℕ)) → length children ≡ length nodes → AreTimeChildren nodes tps children → StayBelow (length children) children
   children_stay children long under = filtered_stay (length nodes) (λ p q. is_element_at nodes p && is_option q (up tps p)) children long (λ i l. under i)

@@ -99,26 +99,28 @@ range_suc (suc n) a =
 pub range_more : (a n : ℕ) → range_with_len a (n + 1) ≡ range_with_len a n ++ (a + n) ∷ []
 range_more a n = let one : n + 1 ≡ suc n = omega arith in ap (range_with_len a) one ∙ range_suc n a
 
+-- what passes up to a place, with that place
+pub filter_more : (f : ℕ → Bool) (n : ℕ) (old new : List ℕ) → old ≡ filter f (range_with_len 0 n) → new ≡ cond (f n) (old ++ n ∷ []) old → new ≡ filter f (range_with_len 0 (n + 1))
+filter_more f n old new so pushed =
+    pushed ∙ by_test (f n) refl ∙ sym (ap (filter f) (range_more 0 n) ∙ filter-append f (range_with_len 0 n) ((0 + n) ∷ []))
+  where
+    zero_more : (0 + n) ≡ n
+    zero_more = grind arith
+
+    by_test : (t : Bool) → f n ≡ t → cond t (old ++ n ∷ []) old ≡ filter f (range_with_len 0 n) ++ filter f ((0 + n) ∷ [])
+    by_test true q =
+        ap (λ r. r ++ n ∷ []) so
+        ∙ ap (λ ps. filter f (range_with_len 0 n) ++ ps) (sym (ap (λ p. filter f (p ∷ [])) zero_more ∙ ap (λ t. cond t (n ∷ []) []) q))
+    by_test false q =
+        so
+        ∙ sym (append-nil (filter f (range_with_len 0 n)))
+        ∙ ap (λ ps. filter f (range_with_len 0 n) ++ ps) (sym (ap (λ p. filter f (p ∷ [])) zero_more ∙ ap (λ t. cond t (n ∷ []) []) q))
+
 -- the rows of places before this one are turned round
 pub turned_more : (rows heads new : List (List ℕ)) (place : ℕ) → place < length rows → length heads ≡ length rows
     → ((i : ℕ) → i < length rows → row heads i ≡ filter (λ k. links rows k i) (range_with_len 0 place))
     → IsPushedInEach heads new (row rows place) place
     → (i : ℕ) → i < length rows → row new i ≡ filter (λ k. links rows k i) (range_with_len 0 (place + 1))
 turned_more rows heads new place here long so pushed i low =
-    pushed.rows i (omega (arith, low, long)) (ap (λ r. has r place) (so i low) ∙ filter_fresh (λ k. links rows k i) place place 0 (omega arith))
-    ∙ by_test (links rows place i) refl
-    ∙ sym (ap (filter (λ k. links rows k i)) (range_more 0 place) ∙ filter-append (λ k. links rows k i) (range_with_len 0 place) ((0 + place) ∷ []))
-  where
-    zero_more : (0 + place) ≡ place
-    zero_more = grind arith
-
-    by_test : (t : Bool) → links rows place i ≡ t → cond (has (row rows place) i) (row heads i ++ place ∷ []) (row heads i) ≡ filter (λ k. links rows k i) (range_with_len 0 place) ++ filter (λ k. links rows k i) ((0 + place) ∷ [])
-    by_test true q =
-        ap (λ t. cond t (row heads i ++ place ∷ []) (row heads i)) q
-        ∙ ap (λ r. r ++ place ∷ []) (so i low)
-        ∙ ap (λ ps. filter (λ k. links rows k i) (range_with_len 0 place) ++ ps) (sym (ap (λ p. filter (λ k. links rows k i) (p ∷ [])) zero_more ∙ ap (λ t. cond t (place ∷ []) []) q))
-    by_test false q =
-        ap (λ t. cond t (row heads i ++ place ∷ []) (row heads i)) q
-        ∙ so i low
-        ∙ sym (append-nil (filter (λ k. links rows k i) (range_with_len 0 place)))
-        ∙ ap (λ ps. filter (λ k. links rows k i) (range_with_len 0 place) ++ ps) (sym (ap (λ p. filter (λ k. links rows k i) (p ∷ [])) zero_more ∙ ap (λ t. cond t (place ∷ []) []) q))
+    filter_more (λ k. links rows k i) place (row heads i) (row new i) (so i low)
+    (pushed.rows i (omega (arith, low, long)) (ap (λ r. has r place) (so i low) ∙ filter_fresh (λ k. links rows k i) place place 0 (omega arith)))

@@ -61,12 +61,6 @@ pub source_row : (o : Option Node) (n : Node) (read : List ℕ) (named : List �
 source_row o n read named place i new mid same at pushed =
     pushed ∙ ap (λ t. t || (is_element n && hears named place n i)) same ∙ ap (λ z. has read i || element_hears named place z i) at
 
-pub parent_row : (t : Bool) (p p' : Option ℕ) (i : ℕ) (new empty : List ℕ) → empty ≡ [] → t ≡ true → p ≡ p' → has new i ≡ (has empty i || is_option i p) → has new i ≡ (t && is_option i p')
-parent_row t p p' i new empty none is same pushed = pushed ∙ ap (λ r. has r i || is_option i p) none ∙ ap (is_option i) same ∙ ap (λ u. u && is_option i p') (sym is)
-
-pub no_parent_row : (t : Bool) (p' : Option ℕ) (i : ℕ) (empty : List ℕ) → empty ≡ [] → t ≡ false → has empty i ≡ (t && is_option i p')
-no_parent_row t p' i empty none isnt = ap (λ r. has r i) none ∙ ap (λ u. u && is_option i p') (sym isnt)
-
 -- ---- marks
 
 pub marks_more : (f : Item → Bool) (items : List Item) (k : ℕ) (item : Item) (b : Bool) (old mid new : List Bool) → slice_get items k ≡ Some item → b ≡ f item → mid ≡ old ++ map f (take k items) → new ≡ mid ++ b ∷ [] → new ≡ old ++ map f (take (k + 1) items)

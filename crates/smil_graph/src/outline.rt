@@ -1,15 +1,14 @@
 //! The tree of a document, by places in document order.
 
-ghost use Rattle.std.specs.Prelude.{◌≡◌, ℕ, ◌<◌, ◌&&◌, Some, None, length, IfOk, IfSome, slice_get};
+ghost use Rattle.std.specs.Prelude.{◌≡◌, ℕ, ◌<◌, [], ◌∷◌, ◌++◌, Some, None, length, IfOk, IfSome, OnOk, if◌then◌else◌, slice_get};
 ghost use Rattle.std.specs.FinMap.{get};
 ghost use Rattle.smil_model.specs.document.Document as model;
 ghost use Rattle.smil_model.specs.document.Valid.{IsNumberedTree};
 ghost use Rattle.smil_model.specs.reach.Reach.{is_option};
-ghost use Rattle.smil_graph.specs.Links.{row, AreRows, IsRising};
+ghost use Rattle.smil_graph.specs.Links.{row, IsRising};
 ghost use Rattle.smil_graph.specs.Places.{up, IsTable, IsIndex, before, is_element_at, element_above, previous_of, AreTimeChildren};
 
-use super::row::{push_one, row_at};
-use super::turned::turned;
+use super::row::{empty_rows, push_at, row_at};
 use smil_model::{Doc, GrowingList, Kind, Node, SerialTable};
 use std::alloc::{AllocError, Global};
 
@@ -114,29 +113,31 @@ pub fn time_children(
     ensures children { IfOk result
         (λ rows. AreTimeChildren doc.now.nodes time_parents.now rows.items) }
 {
-    let under = parent_rows(alloc, doc, time_parents)?;
-    turned(alloc, under.as_slice())
-}
-
-// For each element a row with the place of its time parent, if it has one; the row of a
-// priorityClass is empty.
-fn parent_rows(
-    alloc: Global,
-    doc: &Doc,
-    time_parents: &[Option<usize>],
-) -> Result<Vec<GrowingList<usize>>, AllocError>
-    ensures { IfOk result (λ rows. AreRows (length doc.now.nodes)
-        (λ p q. is_element_at doc.now.nodes p && is_option q (up time_parents.now p)) rows.items) }
-{
-    let mut rows = Vec::with_capacity(alloc, doc.len())?;
+    let mut rows = empty_rows(alloc, doc.len())?;
     for (place, node) in doc.nodes().iter().enumerate() {
-        let mut row = GrowingList::new(alloc);
         if is_element(node) {
-            push_one(&mut row, place_at(time_parents, place))?;
+            push_under(&mut rows, place_at(time_parents, place), place)?;
         }
-        rows.push(row)?;
     }
     Ok(rows)
+}
+
+// Appends a place to the row of another, if there is one.
+fn push_under(
+    rows: &mut Vec<GrowingList<usize>>,
+    parent: Option<usize>,
+    place: usize,
+) -> Result<(), AllocError>
+    requires { IfSome parent (λ q. q < length rows.old.items) }
+    ensures count { OnOk result (length rows.new.items ≡ length rows.old.items) }
+    ensures rows { OnOk result ((q : ℕ) → row rows.new.items q
+        ≡ (if is_option q parent then row rows.old.items q ++ place ∷ []
+        else row rows.old.items q)) }
+{
+    match parent {
+        Some(parent) => push_at(rows, parent, place),
+        None => Ok(()),
+    }
 }
 
 /// For each node the place of the child before it, where its time parent is a seq.

@@ -41,6 +41,13 @@ struct ItemList<'a> {
     count: usize,
 }
 
+/// Which items of an element are looped references, before and after an edit.
+#[derive(Drop)]
+struct Marks {
+    before: Vec<bool>,
+    after: Vec<bool>,
+}
+
 /// Whether an edit of a node leaves the references as they were, unless memory runs out: each id of
 /// a node names the same element in both documents or none, and the items of each other element
 /// that both have are looped in both or in none.
@@ -149,8 +156,12 @@ fn keeps_loops(alloc: Global, revision: Revision<'_>) -> Result<bool, AllocError
     ensures { IfOk result (λ keeps. keeps ≡ keeps_loops revision.entry.edited
         revision.entry.old.tree.now.nodes revision.entry.new.tree.now.nodes) }
 {
+    let mut marks = Marks {
+        before: Vec::new(alloc),
+        after: Vec::new(alloc),
+    };
     for node in revision.old.tree.nodes() {
-        if node.kind.is_element() && !keeps_loops_of(alloc, revision, node.serial)? {
+        if node.kind.is_element() && !keeps_loops_of(revision, node.serial, &mut marks)? {
             return Ok(false);
         }
     }
@@ -158,8 +169,12 @@ fn keeps_loops(alloc: Global, revision: Revision<'_>) -> Result<bool, AllocError
 }
 
 // Whether the items of an element, unless it is edited or the new document does not have it, are
-// looped in both documents or in none.
-fn keeps_loops_of(alloc: Global, revision: Revision<'_>, serial: u32) -> Result<bool, AllocError>
+// looped in both documents or in none. What the marks had is gone.
+fn keeps_loops_of(
+    revision: Revision<'_>,
+    serial: u32,
+    marks: &mut Marks,
+) -> Result<bool, AllocError>
     requires old_graph { revision.old.graph.now.nodes ≡ revision.old.tree.now.nodes }
     requires new_graph { revision.new.graph.now.nodes ≡ revision.new.tree.now.nodes }
     ensures { IfOk result (λ keeps. keeps ≡ keeps_loops_of revision.entry.edited
@@ -168,21 +183,26 @@ fn keeps_loops_of(alloc: Global, revision: Revision<'_>, serial: u32) -> Result<
     if serial == revision.edited || item_counts(revision.new.tree, serial).is_none() {
         return Ok(true);
     }
-    let before = loops(alloc, revision.old, serial)?;
-    let after = loops(alloc, revision.new, serial)?;
-    Ok(before == after)
+    loops(revision.old, serial, &mut marks.before)?;
+    loops(revision.new, serial, &mut marks.after)?;
+    Ok(marks.before == marks.after)
 }
 
-// Which items of an element are looped references; nothing for a serial of no element.
-fn loops(alloc: Global, document: GraphedDocument<'_>, serial: u32) -> Result<Vec<bool>, AllocError>
+// Makes the marks those of the items of an element that are looped references; none for a serial of
+// no element.
+fn loops(
+    document: GraphedDocument<'_>,
+    serial: u32,
+    marks: &mut Vec<bool>,
+) -> Result<(), AllocError>
     requires graph { document.graph.now.nodes ≡ document.tree.now.nodes }
-    ensures { IfOk result (λ marks. marks.items
+    ensures { OnOk result (marks.new.items
         ≡ loops document.entry.tree.now.nodes
         (node_at (elements document.entry.tree.now.nodes) serial)) }
 {
-    let mut marks = Vec::new(alloc);
+    marks.clear();
     let Some((begins, ends)) = item_counts(document.tree, serial) else {
-        return Ok(marks);
+        return Ok(());
     };
     let begin = ItemList {
         graph: document.graph,
@@ -190,15 +210,15 @@ fn loops(alloc: Global, document: GraphedDocument<'_>, serial: u32) -> Result<Ve
         edge: Edge::Begin,
         count: begins,
     };
-    push_marks(begin, &mut marks)?;
+    push_marks(begin, marks)?;
     let end = ItemList {
         graph: document.graph,
         serial,
         edge: Edge::End,
         count: ends,
     };
-    push_marks(end, &mut marks)?;
-    Ok(marks)
+    push_marks(end, marks)?;
+    Ok(())
 }
 
 // Appends which items of one side of an element are looped references.

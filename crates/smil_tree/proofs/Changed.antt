@@ -26,7 +26,7 @@ use Rattle.smil_model.specs.document.Document.{has_id, node_at, is_class_kind, i
 use Rattle.smil_model.specs.document.Valid.{IsNumberedTree, IsTree, IsTreeFrom, IsDistinct, open_from, is_id_taken, is_reference, kind_of, listed_references, references, references_among, references_of}
 use Rattle.smil_model.specs.document.Edits.{changed_at, with_attr, without_attr}
 use Rattle.smil_tree.specs.TreeFields.{bears, owner, is_other, IsTableOf}
-use Rattle.smil_tree.proofs.Holding.{with_attrs}
+use Rattle.smil_tree.proofs.Listed.{with_attrs}
 use Rattle.smil_tree.proofs.Owners.{Around, around, count-append, count-one, count-cons, sum-one, owner-between, owner-without, taken}
 
 references_split : (nodes front back : List Node) (n : Node) → nodes ≡ front ++ n ∷ back → references nodes ≡ references front + (references_among n.attrs + references back)

@@ -14,7 +14,7 @@ use Rattle.smil_laws.specs.Edited.{IsOrdered}
 use Rattle.smil_laws.proofs.Aside.{each_reverse}
 use Rattle.smil_laws.proofs.Numbered.{all_low}
 use Rattle.smil_laws.proofs.Lists.{each_weaker}
-use Rattle.smil_tree.specs.Held.{cut}
+use Rattle.smil_tree.specs.Places.{cut}
 use Rattle.smil_tree.proofs.Families.{drop_at}
 use Rattle.smil_tree.proofs.KinLists.{filter_none}
 

@@ -14,7 +14,7 @@ use Rattle.smil_laws.proofs.Lineages.{swap_eqb}
 use Rattle.smil_laws.proofs.Lists.{each_kept}
 use Rattle.smil_laws.proofs.Members.{differ_each}
 use Rattle.smil_laws.proofs.Ranks.{serials_length}
-use Rattle.smil_tree.specs.Held.{cut}
+use Rattle.smil_tree.specs.Places.{cut}
 use Rattle.smil_tree.specs.Kin.{is_before, is_earlier}
 use Rattle.smil_model.specs.document.Document.{serials}
 

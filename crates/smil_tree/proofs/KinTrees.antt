@@ -21,7 +21,7 @@ use Rattle.smil_laws.proofs.Lineages.{swap_eqb, is_option-serial_of, upwards-res
 use Rattle.smil_laws.proofs.Members.{holds, held_each, held_reverse, differ_each}
 use Rattle.smil_laws.proofs.Lists.{each_weaker, each_kept}
 use Rattle.smil_laws.proofs.EditsBelow.{keeps_list, own_parents}
-use Rattle.smil_tree.specs.Held.{cut}
+use Rattle.smil_tree.specs.Places.{cut}
 use Rattle.smil_tree.specs.Kin.{IsSubtree, AreListsOf, Separates}
 use Rattle.smil_tree.proofs.Families.{drop_at, node_of_place, chain_of, none_up}
 use Rattle.smil_tree.proofs.KinLists.{each_left, each_right, none_pass, filter_none, filter_all, filter_each, parts}

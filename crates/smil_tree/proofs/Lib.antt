@@ -1,7 +1,8 @@
-pub mod Spots
-pub mod Holding
+pub mod Counted
+pub mod Listed
 pub mod Results
 pub mod Tables
+pub mod Clones
 pub mod Owners
 pub mod ParentNodes
 pub mod Making

@@ -33,7 +33,7 @@ use Rattle.smil_tree.specs.declared.outline.OutlineRow.{OutlineRow}
 use Rattle.smil_tree.specs.declared.outline.Above.{Above}
 use Rattle.smil_tree.specs.declared.outline.Outline.{Outline}
 use Rattle.std.specs.Vec.{vec_capacity}
-use Rattle.smil_tree.specs.Outline.{IsOutlineOf, parent_place, placed, IsRowOf, HasChildren, children_before, IsAbove, parent_from, default_restart_from, default_fill_from, own, restart_by, fill_by}
+use Rattle.smil_tree.specs.Outline.{HasRoomFor, IsOutlineOf, parent_place, placed, IsRowOf, HasChildren, children_before, IsAbove, parent_from, default_restart_from, default_fill_from, own, restart_by, fill_by}
 use Rattle.smil_tree.specs.Inherited.{own_restart, own_fill}
 use Rattle.smil_tree.proofs.Families.{above_of, no_chain, none_held, chain_longer, nearest_here, nearest_above, node_of_place}
 use Rattle.smil_tree.proofs.Inherited.{from_none, from_node, restart_inherits, restart_given, own_restart_given, fill_inherits, fill_given, own_fill_given}
@@ -438,6 +438,16 @@ outline_stays nodes old new rows children elements in_rows in_children in_elemen
     children = omega (arith, begun.room.children, in_children);
     elements = omega (arith, begun.room.elements, in_elements);
   };
+}
+
+-- another outline with the same items, and room for as many
+pub outline_copied : (nodes : List Node) (old new : Outline) → new.rows.items ≡ old.rows.items → new.children.items ≡ old.children.items → new.elements.items ≡ old.elements.items → (count : ℕ) → count ≡ length old.rows.items → HasRoomFor new count → IsOutlineOf nodes old → IsOutlineOf nodes new
+outline_copied nodes old new rows children elements count all room begun = record {
+  count = ap length rows ∙ begun.count;
+  rows = subst (λ xs. RowsAre nodes xs new.children.items) (sym rows) (subst (λ ys. RowsAre nodes old.rows.items ys) (sym children) begun.rows);
+  children = ap length children ∙ begun.children;
+  elements = elements ∙ begun.elements;
+  room = subst (HasRoomFor new) (all ∙ begun.count) room;
 }
 
 -- ---- what a tree reads in its outline

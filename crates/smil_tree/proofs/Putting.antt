@@ -9,7 +9,7 @@ use Rattle.smil_model.specs.document.Valid.{IsValid, IsNumberedTree, references,
 use Rattle.smil_model.specs.document.Edits.{children}
 use Rattle.smil_laws.proofs.Numbered.{all_low}
 use Rattle.smil_laws.proofs.Lists.{each_weaker}
-use Rattle.smil_tree.specs.Held.{cut}
+use Rattle.smil_tree.specs.Places.{cut}
 use Rattle.smil_tree.specs.TreeFields.{IsTableOf, Keeps}
 use Rattle.smil_tree.specs.Kin.{Families, IsKinOf}
 use Rattle.smil_tree.proofs.Cuts.{get_inserted, sum_inserted}

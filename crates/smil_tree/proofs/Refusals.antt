@@ -16,7 +16,7 @@ use Rattle.smil_tree.specs.declared.fault.TreeFault.TheVariants.{TooDeep, BadPla
 use Rattle.smil_tree.specs.Outcomes.{IsFaultOf, passes, may_bear, place_outcome, room_outcome, insert_outcome, and_after}
 use Rattle.smil_tree.proofs.Changed.{fit_few}
 use Rattle.smil_tree.proofs.Cuts.{sum_inserted}
-use Rattle.smil_tree.proofs.Spots.{long_inserted}
+use Rattle.smil_tree.proofs.Counted.{long_inserted}
 use Rattle.smil_tree.proofs.Inserted.{Put, put_at, valid_grown}
 
 pub fault_of : {A : Type 0} (outcome : Result A TreeFault) (fault : TreeFault) → outcome ≡ Err fault → IsFaultOf outcome fault

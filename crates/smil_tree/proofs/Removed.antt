@@ -16,7 +16,7 @@ use Rattle.smil_laws.proofs.Numbered.{ordered}
 use Rattle.smil_laws.proofs.Aside.{each_both, find_true}
 use Rattle.smil_laws.proofs.Members.{holds}
 use Rattle.smil_laws.proofs.Lists.{each_weaker, each_chosen, each_kept, filter_shorter}
-use Rattle.smil_tree.specs.Held.{cut}
+use Rattle.smil_tree.specs.Places.{cut}
 use Rattle.smil_tree.specs.TreeFields.{bears, IsTableOf, Keeps}
 use Rattle.smil_tree.specs.Kin.{Families, IsKinOf, IsSubtree}
 use Rattle.smil_tree.proofs.Families.{chain_of, above_of}

@@ -17,7 +17,7 @@ use Rattle.smil_laws.proofs.Ancestry.{below_none}
 use Rattle.smil_laws.proofs.Numbered.{ordered}
 use Rattle.smil_laws.proofs.Members.{holds}
 use Rattle.smil_laws.proofs.Lineages.{swap_eqb}
-use Rattle.smil_tree.specs.Held.{cut}
+use Rattle.smil_tree.specs.Places.{cut}
 use Rattle.smil_tree.proofs.Families.{chain_of, no_chain}
 use Rattle.smil_tree.proofs.KinLists.{each_left, each_right}
 use Rattle.smil_tree.proofs.Stacks.{opened_after, tree_parts, tree_joined, is_open, spanned, open_self, open_next, open_at, open_below, open_after, within_lineage, none_within, split, rest_whole, up_to_child, with_child, childless, span_left_out, put_before, put_behind}

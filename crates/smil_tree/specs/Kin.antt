@@ -10,7 +10,7 @@ use Rattle.smil_model.specs.ListTables.{list_in, list_of}
 use Rattle.smil_model.specs.document.Document.{is_within, time_children as time_children_of, serials}
 use Rattle.smil_model.specs.document.Edits.{children as children_of}
 use Rattle.smil_model.specs.reach.Reach.{is_option}
-use Rattle.smil_tree.specs.Held.{cut}
+use Rattle.smil_tree.specs.Places.{cut}
 
 -- the children by the serial of their parent, and the time children by that of their time parent
 pub record Families : Type 0 where

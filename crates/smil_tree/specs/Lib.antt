@@ -1,4 +1,4 @@
-pub mod Held
+pub mod Places
 pub mod Inherited
 pub mod TreeFields
 pub mod Kin

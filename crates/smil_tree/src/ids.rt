@@ -6,7 +6,7 @@ ghost use Rattle.std.specs.Map.{lookup};
 ghost use Rattle.smil_tree.specs.TreeFields.{bears};
 
 use indexmap::IndexMap;
-use smil_model::Node;
+use smil_model::{Duplicate, Node};
 use std::alloc::{AllocError, Global};
 use std::marker::Model;
 
@@ -23,6 +23,15 @@ impl Model for Ids {
     ghost Value = { List (List ℕ × ℕ) };
 
     ghost view = { λ a. map (λ e. (e.0.items, e.1)) a.serials.entries };
+}
+
+impl Duplicate for Ids {
+    fn copy(&self) -> Result<Self, AllocError> {
+        Ok(Ids {
+            serials: self.serials.clone()?,
+            alloc: self.alloc,
+        })
+    }
 }
 
 impl Ids {

@@ -9,11 +9,11 @@ ghost use Rattle.smil_model.specs.document.Valid.{IsDistinct};
 ghost use Rattle.smil_model.specs.reach.Reach.{is_option};
 ghost use Rattle.smil_model.specs.ListTables.{list_in, list_of};
 ghost use Rattle.smil_laws.specs.Edited.{IsOrdered};
-ghost use Rattle.smil_tree.specs.Held.{cut};
+ghost use Rattle.smil_tree.specs.Places.{cut};
 ghost use Rattle.smil_tree.specs.Kin.{AreListsOf, HasRoom, IsKinOf, IsSubtree, Separates, is_before};
 
 use crate::nodes::Nodes;
-use smil_model::Node;
+use smil_model::{Duplicate, Node};
 use std::alloc::{AllocError, Global};
 use std::collections::HashMap;
 use std::marker::Model;
@@ -57,6 +57,16 @@ impl Model for Kin {
           children = rows a.children.entries;
           time_children = rows a.time_children.entries;
         } };
+}
+
+impl Duplicate for Kin {
+    fn copy(&self) -> Result<Self, AllocError> {
+        Ok(Kin {
+            children: self.children.clone()?,
+            time_children: self.time_children.clone()?,
+            alloc: self.alloc,
+        })
+    }
 }
 
 impl Kin {

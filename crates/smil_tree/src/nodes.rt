@@ -1,6 +1,6 @@
 //! Nodes in document order, found by their serials.
 
-ghost use Rattle.std.specs.Prelude.{◌≡◌, ℕ, ◌+◌, ◌-◌, ◌^◌, ◌<◌, ◌≤◌, ◌==◌, [], length, insert, false, None, IsSome, OnOk, OnErr, if◌then◌else◌, slice_get, slice_range, option_copied};
+ghost use Rattle.std.specs.Prelude.{◌≡◌, ℕ, ◌+◌, ◌-◌, ◌^◌, ◌<◌, ◌≤◌, ◌==◌, [], length, insert, None, IsSome, OnOk, OnErr, if◌then◌else◌, slice_get, slice_range, option_copied};
 ghost use Rattle.std.specs.FinMap.{get as place_of};
 ghost use Rattle.std.specs.List.{position, list_any};
 ghost use Rattle.std.specs.Iterator.{at_most};
@@ -8,38 +8,26 @@ ghost use Rattle.std.specs.Map.Iter.{TakesFirst, TakesLast, deref};
 ghost use Rattle.smil_model.specs.declared.document.Node.{Node as AnyNode};
 ghost use Rattle.smil_model.specs.document.Document.{node_at};
 ghost use Rattle.smil_model.specs.document.Edits.{changed_at, with_attr as attrs_with, without_attr as attrs_without};
-ghost use Rattle.smil_tree.specs.declared.nodes.Spot.{Spot as AnySpot};
-ghost use Rattle.smil_tree.specs.Held.{AreApart, IsCounted, cut, place_among, serial};
-ghost use Rattle.slab.specs.Slab.{get};
+ghost use Rattle.smil_model.specs.document.Valid.{IsDistinct};
+ghost use Rattle.smil_tree.specs.Places.{IsCounted, cut};
 
-use slab::Slab;
-use smil_model::{Attr, AttrName, Node, SerialTable, with_attr, without_attr};
+use smil_model::{Attr, AttrName, Duplicate, Node, SerialTable, with_attr, without_attr};
 use std::alloc::{AllocError, Global};
 use std::marker::Model;
 use std::slice::Iter;
 
-/// Where a node is kept: its serial, and its key of the slab.
-#[derive(Clone, Copy)]
-pub struct Spot {
-    pub serial: u32,
-    pub key: usize,
-}
-
-/// Nodes, each under a key of a slab, seen as their list in document order: a spot for each, and
-/// the place of each among them by its serial.
+/// Nodes, seen as their list in document order, with the place of each among them by its serial.
 pub struct Nodes {
-    spots: Vec<Spot>,
+    list: Vec<Node>,
     places: SerialTable,
-    slab: Slab<Node>,
 }
 
 impl Drop for Nodes {
     // Dropped by a call of its own, not field by field in each function that drops one.
     fn drop(self) {
         let Nodes {
-            spots: _spots,
+            list: _list,
             places: _places,
-            slab: _slab,
         } = self;
     }
 }
@@ -47,32 +35,41 @@ impl Drop for Nodes {
 impl Model for Nodes {
     ghost use Rattle.std.specs.Prelude.{List};
     ghost use Rattle.smil_model.specs.declared.document.Node.{Node};
-    ghost use Rattle.smil_tree.specs.Held.{held, IsHeld, IsIndexed};
+    ghost use Rattle.smil_tree.specs.Places.{IsIndexed};
 
     ghost Value = { List Node };
 
-    ghost view = { λ a. held a.slab a.spots.items };
+    ghost view = { λ a. a.list.items };
 
-    ghost invariant = { λ a. IsHeld a.slab a.spots.items × IsIndexed a.spots.items a.places };
+    ghost invariant = { λ a. IsIndexed a.list.items a.places };
+}
+
+impl Duplicate for Nodes {
+    fn copy(&self) -> Result<Self, AllocError> {
+        let mut list = Vec::with_capacity(*self.list.allocator(), self.list.len())?;
+        for node in self.list.as_slice() {
+            list.push(node.copy()?)?;
+        }
+        Ok(Nodes {
+            list,
+            places: self.places.copy()?,
+        })
+    }
 }
 
 /// The nodes that are left of a walk through nodes in document order, seen as their list.
 #[derive(Drop)]
 pub struct Walk<'a> {
-    spots: Iter<'a, Spot>,
-    slab: &'a Slab<Node>,
+    nodes: Iter<'a, Node>,
 }
 
 impl<'a> Model for Walk<'a> {
     ghost use Rattle.std.specs.Prelude.{List};
     ghost use Rattle.smil_model.specs.declared.document.Node.{Node};
-    ghost use Rattle.smil_tree.specs.Held.{held, IsHeld};
 
     ghost Value = { List Node };
 
-    ghost view = { λ a. held a.slab.now a.spots.rest.now };
-
-    ghost invariant = { λ a. IsHeld a.slab.now a.spots.rest.now };
+    ghost view = { λ a. a.nodes.rest.now };
 }
 
 impl<'a> Iterator for Walk<'a> {
@@ -83,8 +80,7 @@ impl<'a> Iterator for Walk<'a> {
     ghost remaining = { λ s. at_most (length s) };
 
     fn next(&mut self) -> Option<&'a Node> {
-        let spot = self.spots.next()?;
-        self.slab.get(spot.key)
+        self.nodes.next()
     }
 }
 
@@ -92,8 +88,7 @@ impl<'a> DoubleEndedIterator for Walk<'a> {
     ghost next_back_gives = { TakesLast deref };
 
     fn next_back(&mut self) -> Option<&'a Node> {
-        let spot = self.spots.next_back()?;
-        self.slab.get(spot.key)
+        self.nodes.next_back()
     }
 }
 
@@ -103,9 +98,8 @@ impl Nodes {
         ensures { result ≡ [] }
     {
         Nodes {
-            spots: Vec::new(alloc),
+            list: Vec::new(alloc),
             places: SerialTable::new(alloc),
-            slab: Slab::new(alloc),
         }
     }
 
@@ -113,7 +107,7 @@ impl Nodes {
     pub fn len(&self) -> usize
         ensures { result ≡ length self.now }
     {
-        self.spots.len()
+        self.list.len()
     }
 
     /// The nodes, one after another in document order. It takes no memory.
@@ -121,8 +115,7 @@ impl Nodes {
         ensures { result ≡ self.now }
     {
         Walk {
-            spots: self.spots.iter(),
-            slab: &self.slab,
+            nodes: self.list.iter(),
         }
     }
 
@@ -133,8 +126,7 @@ impl Nodes {
         ensures { result ≡ slice_range self.now start end }
     {
         Walk {
-            spots: self.spots[start..end].iter(),
-            slab: &self.slab,
+            nodes: self.list[start..end].iter(),
         }
     }
 
@@ -143,8 +135,7 @@ impl Nodes {
     pub fn at(&self, place: usize) -> Option<&Node>
         ensures { option_copied result ≡ slice_get self.now place }
     {
-        let spot = self.spots.get(place)?;
-        self.slab.get(spot.key)
+        self.list.get(place)
     }
 
     /// The position of the node with a serial; None exactly where there is no such node. It takes
@@ -171,13 +162,10 @@ impl Nodes {
         ensures ok { OnOk result (self.new ≡ insert self.old place node) }
         ensures err { OnErr result (self.new ≡ self.old) }
     {
-        let serial = node.serial;
-        self.spots.reserve(1)?;
-        self.slab.reserve(1)?;
-        self.places.put(serial, place)?;
-        let key = self.slab.insert_reserved(node);
-        self.spots.insert(place, Spot { serial, key }).unwrap();
-        count_from(&mut self.places, &self.spots, place);
+        self.list.reserve(1)?;
+        self.places.put(node.serial, place)?;
+        self.list.insert(place, node).unwrap();
+        count_from(&mut self.places, &self.list, place);
         Ok(())
     }
 
@@ -187,9 +175,9 @@ impl Nodes {
         requires within { end ≤ length self.old }
         ensures { self.new ≡ cut place end self.old }
     {
-        remove_each(&mut self.slab, &mut self.places, &self.spots[place..end]);
-        take_out(&mut self.spots, place, end);
-        count_from(&mut self.places, &self.spots, place);
+        forget_each(&mut self.places, &self.list[place..end]);
+        take_out(&mut self.list, place, end);
+        count_from(&mut self.places, &self.list, place);
     }
 
     /// Gives the node with a serial an attribute. It takes no memory.
@@ -198,9 +186,7 @@ impl Nodes {
         ensures { self.new ≡ changed_at (λ attrs. attrs_with attrs attr) serial self.old }
     {
         let place = self.places.get(serial).unwrap();
-        let key = self.spots[place].key;
-        let node = self.slab.get_mut(key).unwrap();
-        with_attr(&mut node.attrs, attr);
+        with_attr(&mut self.list[place].attrs, attr);
     }
 
     /// Takes an attribute of the node with a serial away. It takes no memory.
@@ -209,44 +195,40 @@ impl Nodes {
         ensures { self.new ≡ changed_at (λ attrs. attrs_without attrs name) serial self.old }
     {
         let place = self.places.get(serial).unwrap();
-        let key = self.spots[place].key;
-        let node = self.slab.get_mut(key).unwrap();
-        without_attr(&mut node.attrs, name);
+        without_attr(&mut self.list[place].attrs, name);
     }
 }
 
-// Gives the serials of the spots from a place on their places anew. It takes no memory, since each
+// Gives the serials of the nodes from a place on their places anew. It takes no memory, since each
 // serial has a place already.
-fn count_from(places: &mut SerialTable, spots: &[Spot], first: usize)
-    requires few { length spots.now < 2 ^ 32 - 1 }
-    requires apart { AreApart serial spots.now }
-    requires counted { IsCounted spots.now places.old first }
-    ensures { (s : ℕ) → place_of places.new s ≡ place_among spots.now s }
+fn count_from(places: &mut SerialTable, nodes: &[Node], first: usize)
+    requires few { length nodes.now < 2 ^ 32 - 1 }
+    requires apart { IsDistinct nodes.now }
+    requires counted { IsCounted nodes.now places.old first }
+    ensures { (s : ℕ) → place_of places.new s
+        ≡ position (λ (n : AnyNode). n.serial == s) nodes.now }
 {
-    for place in first..spots.len() {
-        places.put(spots[place].serial, place).unwrap();
+    for place in first..nodes.len() {
+        places.put(nodes[place].serial, place).unwrap();
     }
 }
 
-// The spots without those from a place on up to another.
-fn take_out(spots: &mut Vec<Spot>, place: usize, end: usize)
+// The nodes without those from a place on up to another.
+fn take_out(nodes: &mut Vec<Node>, place: usize, end: usize)
     requires in_order { place ≤ end }
-    requires within { end ≤ length spots.old.items }
-    ensures { spots.new.items ≡ cut place end spots.old.items }
+    requires within { end ≤ length nodes.old.items }
+    ensures { nodes.new.items ≡ cut place end nodes.old.items }
 {
-    spots.drain(place..end);
+    nodes.drain(place..end);
 }
 
-// Drops the nodes of these spots, and the places of their serials.
-fn remove_each(slab: &mut Slab<Node>, places: &mut SerialTable, spots: &[Spot])
-    ensures nodes { (key : ℕ) → list_any (λ (x : AnySpot). x.key == key) spots.now ≡ false
-        → get slab.new key ≡ get slab.old key }
-    ensures places { (s : ℕ) → place_of places.new s
-        ≡ (if list_any (λ (x : AnySpot). x.serial == s) spots.now then None
+// Drops the places of the serials of these nodes.
+fn forget_each(places: &mut SerialTable, nodes: &[Node])
+    ensures { (s : ℕ) → place_of places.new s
+        ≡ (if list_any (λ (n : AnyNode). n.serial == s) nodes.now then None
         else place_of places.old s) }
 {
-    for spot in spots {
-        slab.try_remove(spot.key);
-        places.forget(spot.serial);
+    for node in nodes {
+        places.forget(node.serial);
     }
 }

@@ -1,6 +1,6 @@
 //! What is read most of each node, in document order.
 
-ghost use Rattle.std.specs.Prelude.{◌≡◌, ℕ, ◌+◌, ◌<◌, ◌≤◌, List, [], ◌∷◌, ◌++◌, length, Some, if◌then◌else◌, OnOk, vec_capacity, slice_get, option_copied, unwrap_or};
+ghost use Rattle.std.specs.Prelude.{◌≡◌, ℕ, ◌+◌, ◌<◌, ◌≤◌, List, [], ◌∷◌, ◌++◌, length, Some, if◌then◌else◌, IfOk, OnOk, vec_capacity, slice_get, option_copied, unwrap_or};
 ghost use Rattle.smil_model.specs.declared.document.Node.{Node as AnyNode};
 ghost use Rattle.smil_model.specs.document.Document.{is_element, serials, time_children};
 ghost use Rattle.smil_model.specs.document.Valid.{IsValid};
@@ -64,6 +64,19 @@ impl Outline {
             children: Vec::new(alloc),
             elements: Vec::new(alloc),
         }
+    }
+
+    /// The same outline, unless memory runs out. The original stays.
+    pub fn copy(&self, alloc: Global) -> Result<Outline, AllocError>
+        ensures { IfOk result (λ outline. (nodes : List AnyNode) → IsOutlineOf nodes self.now
+            → IsOutlineOf nodes outline) }
+    {
+        let count = self.rows.len();
+        Ok(Outline {
+            rows: with_room(alloc, &self.rows, count)?,
+            children: with_room(alloc, &self.children, count)?,
+            elements: with_room(alloc, &self.elements, count)?,
+        })
     }
 
     /// The row of the node at a place, if there is one. It takes no memory.
@@ -194,6 +207,16 @@ impl Outline {
             row,
         })
     }
+}
+
+// These items, with room for so many at least.
+fn with_room<T: Copy>(alloc: Global, items: &[T], count: usize) -> Result<Vec<T>, AllocError>
+    ensures items { IfOk result (λ copy. copy.items ≡ items.now) }
+    ensures room { IfOk result (λ copy. count ≤ vec_capacity copy) }
+{
+    let mut copy = Vec::with_capacity(alloc, count)?;
+    copy.extend_from_slice(items)?;
+    Ok(copy)
 }
 
 // A number of nodes, which are few.

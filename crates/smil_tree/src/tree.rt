@@ -68,9 +68,15 @@ impl Model for Tree {
 
 impl Duplicate for Tree {
     fn copy(&self) -> Result<Self, AllocError> {
-        let doc = self.doc_copy()?;
-        let _kept = &self.next;
-        made(self.alloc, &doc)
+        Ok(Tree {
+            nodes: self.nodes.copy()?,
+            next: self.next,
+            kin: self.kin.copy()?,
+            ids: self.ids.copy()?,
+            references: self.references,
+            outline: self.outline.copy(self.alloc)?,
+            alloc: self.alloc,
+        })
     }
 }
 

@@ -7,7 +7,7 @@ ghost use Rattle.smil_model.specs.document.Document.{Document};
 ghost use Rattle.smil_model.specs.document.Edits.{children};
 ghost use Rattle.smil_model.specs.document.Valid.{IsValid, is_id_taken, references, references_among};
 ghost use Rattle.smil_laws.specs.Edited.{IsOrdered};
-ghost use Rattle.smil_tree.specs.Held.{cut};
+ghost use Rattle.smil_tree.specs.Places.{cut};
 ghost use Rattle.smil_tree.specs.TreeFields.{bears, IsTableOf};
 ghost use Rattle.smil_tree.specs.Kin.{IsKinOf};
 ghost use Rattle.smil_tree.specs.Outcomes.{IsFaultOf, and_after, insert_outcome, may_bear, room_outcome};

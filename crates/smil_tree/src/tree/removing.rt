@@ -5,7 +5,7 @@ ghost use Rattle.smil_model.specs.declared.limits.TheConstants.{REFERENCES as th
 ghost use Rattle.smil_model.specs.document.Document.{node_at};
 ghost use Rattle.smil_model.specs.document.Edits.{node_removed};
 ghost use Rattle.smil_model.specs.document.Valid.{references};
-ghost use Rattle.smil_tree.specs.Held.{cut};
+ghost use Rattle.smil_tree.specs.Places.{cut};
 ghost use Rattle.smil_tree.specs.TreeFields.{bears, IsTableOf};
 ghost use Rattle.smil_tree.specs.Outcomes.{is_root, remove_outcome};
 

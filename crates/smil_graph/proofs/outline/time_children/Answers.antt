@@ -1,15 +1,49 @@
-use Rattle.std.proofs.Common.{◌≡◌, ℕ, ◌<◌, length}
-use Rattle.std.proofs.lemmas.Result.{IfOk-weaker}
-use Rattle.smil_graph.specs.Links.{row, that_have}
-use Rattle.smil_graph.specs.Places.{AreTimeChildren}
-use Rattle.smil_graph.proofs.Kept.{both_ok, under_stay, under_are}
+use Rattle.std.proofs.Common.{◌≡◌, ◌∙◌, ◌∷◌, ◌++◌, sym, ap, true, false, [], length, arith, rules, cond, Some}
+use Rattle.std.specs.Prelude.{◌&&◌, slice_get}
+use Rattle.std.proofs.lemmas.Option.{slice_get-get_or}
+use Rattle.smil_model.specs.document.Document.{is_element}
+use Rattle.smil_model.specs.reach.Reach.{is_option}
+use Rattle.smil_graph.specs.Links.{row}
+use Rattle.smil_graph.specs.Places.{has_element, is_element_at, up}
+use Rattle.smil_graph.proofs.Kept.{under_known}
+use Rattle.smil_graph.proofs.Pushed.{filter_more}
 use Rattle.smil_graph.proofs.outline.time_children.Goals as goal
+use Rattle.smil_graph.proofs.outline.time_children.Goals.{then-is_element+in_ok-push_under, else-is_element}
 
-pub turned-requires : goal.turned-requires
-turned-requires c = rw c.as_slice.ensures.value (under_stay c.args.doc.now.nodes c.args.time_parents.now c.requires c.in_ok-under.under.items c.in_ok-under.ensures)
+pub push_under-requires : goal.push_under-requires
+push_under-requires c =
+    rw c.loop-place.invariant.count
+    (under_known c.args.doc.now.nodes c.args.time_parents.now c.requires c.loop-place.place c.place_at.result c.place_at.ensures
+    (omega (arith, ap length c.nodes-node-items.ensures, c.loop-place-test.true)))
+
+pub loop-place-preserved : goal.loop-place-preserved
+loop-place-preserved c =
+    let place = c.loop-place.place in
+    let node = c.node-item.result in
+    let at : slice_get c.args.doc.now.nodes place ≡ Some node = ap (λ ns. slice_get ns place) (sym c.nodes-node-items.ensures) ∙ slice_get-get_or c.nodes-node-items.result.now place node c.loop-place-test.true ∙ ap Some (sym c.node-item.is) in
+    let kind : is_element_at c.args.doc.now.nodes place ≡ is_element node = ap has_element at in
+    elim c.if-is_element.branch [
+      | then-is_element+in_ok-push_under w ↦
+          let element : is_element node ≡ true = search rules in
+          rw w.rows-is (record {
+            count = w.in_ok-push_under.ensures.count ∙ c.loop-place.invariant.count;
+            rows = λ q.
+                filter_more (λ p. is_element_at c.args.doc.now.nodes p && is_option q (up c.args.time_parents.now p)) place (row c.loop-place.rows.items q) (row w.push_under.new.rows.items q) (c.loop-place.invariant.rows q)
+                (w.in_ok-push_under.ensures.rows q
+                ∙ ap (λ o. cond (is_option q o) (row c.loop-place.rows.items q ++ place ∷ []) (row c.loop-place.rows.items q)) w.place_at.ensures
+                ∙ ap (λ t. cond (t && is_option q (up c.args.time_parents.now place)) (row c.loop-place.rows.items q ++ place ∷ []) (row c.loop-place.rows.items q)) (sym (kind ∙ element)));
+          })
+      | else-is_element w ↦
+          let other : is_element node ≡ false = search rules in
+          rw w.rows-is (record {
+            count = c.loop-place.invariant.count;
+            rows = λ q.
+                filter_more (λ p. is_element_at c.args.doc.now.nodes p && is_option q (up c.args.time_parents.now p)) place (row c.loop-place.rows.items q) (row c.loop-place.rows.items q) (c.loop-place.invariant.rows q)
+                (ap (λ t. cond (t && is_option q (up c.args.time_parents.now place)) (row c.loop-place.rows.items q ++ place ∷ []) (row c.loop-place.rows.items q)) (sym (kind ∙ other)));
+          })
+    ]
 
 pub returns-clause-children : goal.returns-clause-children
 returns-clause-children c =
-    IfOk-weaker c.turned.result (λ rows. (length rows.items ≡ length c.as_slice.result.now) × ((i : ℕ) → i < length c.as_slice.result.now → row rows.items i ≡ that_have c.as_slice.result.now i)) (λ rows. AreTimeChildren c.args.doc.now.nodes c.args.time_parents.now rows.items)
-    (λ rows q. under_are c.args.doc.now.nodes c.args.time_parents.now c.requires c.as_slice.result.now rows.items (rw c.as_slice.ensures.value c.in_ok-under.ensures) q.0 q.1)
-    (both_ok c.turned.result (λ rows. length rows.items ≡ length c.as_slice.result.now) (λ rows. (i : ℕ) → i < length c.as_slice.result.now → row rows.items i ≡ that_have c.as_slice.result.now i) c.turned.ensures.count c.turned.ensures.heads)
+    let end : c.loop-place.place ≡ length c.args.doc.now.nodes = omega (arith, ap length c.nodes-node-items.ensures, c.loop-place-test.false, c.loop-place.auto.place-end) in
+    rw end at c.loop-place.invariant.rows

@@ -12,4 +12,4 @@ returns c =
     let s = c.args.serial in
     let counts : Some (c.in-Some.begins, c.in-Some.ends) ≡ counts_at nodes s = subst (λ (ns : List Node). Some (c.in-Some.begins, c.in-Some.ends) ≡ counts_at ns s) (sym c.requires.graph) c.in-Some.ensures in
     subst (λ (ns : List Node). c.push_marks-2.new.marks.items ≡ loops ns (node_at (elements ns) s)) c.requires.graph
-    (both_sides nodes s c.in-Some.begins c.in-Some.ends c.new-marks.result.items c.push_marks.new.marks.items c.push_marks-2.new.marks.items (is_counted nodes s c.in-Some.begins c.in-Some.ends counts) c.new-marks.ensures.items c.in_ok-push_marks.ensures c.in_ok-push_marks-2.ensures)
+    (both_sides nodes s c.in-Some.begins c.in-Some.ends c.clear.new.self.items c.push_marks.new.marks.items c.push_marks-2.new.marks.items (is_counted nodes s c.in-Some.begins c.in-Some.ends counts) c.clear.ensures.items c.in_ok-push_marks.ensures c.in_ok-push_marks-2.ensures)

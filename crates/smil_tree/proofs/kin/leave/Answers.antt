@@ -1,5 +1,5 @@
 use Rattle.std.proofs.Common.{sym, ap, subst, ◌∙◌, arith, Some, cond, filter}
-use Rattle.smil_tree.specs.Held.{cut}
+use Rattle.smil_tree.specs.Places.{cut}
 use Rattle.smil_model.specs.reach.Reach.{is_option}
 use Rattle.smil_model.specs.document.Document.{serials}
 use Rattle.smil_model.specs.ListTables.{list_of}

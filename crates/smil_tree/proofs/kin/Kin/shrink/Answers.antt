@@ -2,7 +2,7 @@ use Rattle.std.proofs.Common.{◌≡◌, sym, ap, subst, ◌∙◌, Some}
 use Rattle.std.specs.Option.{option_copied}
 use Rattle.smil_model.specs.declared.document.Node.{Node}
 use Rattle.smil_model.specs.document.Document.{is_time_child}
-use Rattle.smil_tree.specs.Held.{cut}
+use Rattle.smil_tree.specs.Places.{cut}
 use Rattle.smil_tree.specs.Kin.{Separates}
 use Rattle.smil_tree.proofs.KinTables.{is_child, kin_of, lists_of}
 use Rattle.smil_tree.proofs.KinTrees.{children_apart, time_apart, cut_lists}

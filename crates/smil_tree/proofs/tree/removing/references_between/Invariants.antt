@@ -1,6 +1,6 @@
 use Rattle.std.proofs.Common.{◌≡◌, ◌+◌}
 use Rattle.smil_model.specs.document.Valid.{references}
-use Rattle.smil_tree.specs.Held.{cut}
+use Rattle.smil_tree.specs.Places.{cut}
 use Rattle.smil_tree.proofs.tree.removing.references_between.Given as goal
 
 abbrev pub invariant-loop-node : goal.invariant-loop-node
