@@ -51,12 +51,10 @@ impl Model for Book {
 
 impl Duplicate for Book {
     fn copy(&self) -> Result<Self, AllocError> {
-        let mut copy = Book::new(*self.entries.allocator());
-        copy.entries.reserve(self.entries.len())?;
-        for entry in &self.entries {
-            copy.append(*entry)?;
-        }
-        Ok(copy)
+        Ok(Book {
+            entries: Vec::from_slice(*self.entries.allocator(), &self.entries)?,
+            index: self.index.copy()?,
+        })
     }
 }
 

@@ -9,7 +9,7 @@ ghost use Rattle.smil_diary.specs.ElementPlaces.{nothing, places_of, last_of, wi
 
 use super::places::{Places, is_from, is_later, later_of};
 use super::subject::ends;
-use smil_model::StepKind;
+use smil_model::{Duplicate, StepKind};
 use std::alloc::{AllocError, Global};
 
 /// The places in a diary of the entries on one element, by kind, and of those that finished an
@@ -40,6 +40,22 @@ impl Drop for ElementPlaces {
             passed: _passed,
             finished: _finished,
         } = self;
+    }
+}
+
+impl Duplicate for ElementPlaces {
+    fn copy(&self) -> Result<Self, AllocError> {
+        Ok(ElementPlaces {
+            began: self.began.copy()?,
+            repeated: self.repeated.copy()?,
+            ended: self.ended.copy()?,
+            cut: self.cut.copy()?,
+            paused: self.paused.copy()?,
+            resumed: self.resumed.copy()?,
+            deferred: self.deferred.copy()?,
+            passed: self.passed.copy()?,
+            finished: self.finished.copy()?,
+        })
     }
 }
 

@@ -5,7 +5,7 @@ ghost use Rattle.smil_model.specs.declared.limits.TheConstants as limits;
 ghost use Rattle.smil_diary.specs.ElementPlaces.{nothing, kept, noted_at, forgotten_at, row_of};
 
 use super::element::ElementPlaces;
-use smil_model::{SerialTable, StepKind};
+use smil_model::{Duplicate, SerialTable, StepKind};
 use std::alloc::{AllocError, Global};
 use std::marker::Model;
 
@@ -29,6 +29,17 @@ impl Model for Index {
 
     ghost invariant = { λ i. ((who : ℕ) → get i.rows who ≡ row_of i.elements.items who)
         × (i.absent ≡ nothing) };
+}
+
+impl Duplicate for Index {
+    fn copy(&self) -> Result<Self, AllocError> {
+        let alloc = *self.elements.allocator();
+        Ok(Index {
+            rows: self.rows.copy()?,
+            elements: copy_rows(alloc, &self.elements)?,
+            absent: ElementPlaces::new(alloc),
+        })
+    }
 }
 
 impl Index {
@@ -99,4 +110,18 @@ impl Index {
             }
         }
     }
+}
+
+// The same rows, unless memory runs out.
+fn copy_rows(
+    alloc: Global,
+    rows: &[(u32, ElementPlaces)],
+) -> Result<Vec<(u32, ElementPlaces)>, AllocError>
+    ensures { IfOk result (λ copy. copy.items ≡ rows.now) }
+{
+    let mut copy = Vec::with_capacity(alloc, rows.len())?;
+    for row in rows {
+        copy.push((row.0, row.1.copy()?))?;
+    }
+    Ok(copy)
 }

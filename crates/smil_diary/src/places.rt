@@ -7,6 +7,7 @@ ghost use Rattle.smil_model.specs.declared.limits.TheConstants as limits;
 ghost use Rattle.smil_diary.specs.ElementPlaces.{last_of};
 ghost use Rattle.smil_diary.specs.Places.{is_later, later_of, is_from};
 
+use smil_model::Duplicate;
 use std::alloc::{AllocError, Global};
 use std::marker::Model;
 
@@ -22,6 +23,14 @@ impl Model for Places {
     ghost Value = { List ℕ };
 
     ghost view = { λ p. p.items.items };
+}
+
+impl Duplicate for Places {
+    fn copy(&self) -> Result<Self, AllocError> {
+        Ok(Places {
+            items: Vec::from_slice(*self.items.allocator(), &self.items)?,
+        })
+    }
 }
 
 impl Places {

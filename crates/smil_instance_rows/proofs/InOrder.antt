@@ -1,15 +1,15 @@
 -- Instance times in the order of their places.
 use Rattle.std.proofs.Common.{◌≡◌, sym, refl, ◌∙◌, ap, ℕ, suc, ◌≤◌, ◌<◌, List, [], ◌∷◌, ◌++◌, length, Bool, true, false, Option, Some, None, arith}
 use Rattle.std.proofs.lemmas.List.{same_from_push}
-use Rattle.std.specs.Prelude.{cond, get_or, drop, nat_le}
+use Rattle.std.specs.Prelude.{◌-◌, cond, get_or, drop, nat_le, nat_lt}
 use Rattle.smil_model.specs.declared.times.Time.{Time}
 use Rattle.smil_instance_rows.specs.declared.item_times.InstanceTime.{InstanceTime}
-use Rattle.smil_instance_rows.specs.Rows.{from_place}
+use Rattle.smil_instance_rows.specs.Rows.{before_place, from_place}
 use Rattle.smil_model.specs.Rising.{IsOrder, poured}
 use Rattle.smil_instance_rows.specs.Values.{values_of, with_value, without_value}
 use Rattle.smil_instance_rows.specs.Places.{IsInOrder, last_alone, Replaces, IsUndone}
 use Rattle.smil_model.proofs.Rising.{taken_put, default_free}
-use Rattle.smil_instance_rows.proofs.Merge.{first_value}
+use Rattle.smil_instance_rows.proofs.Merge.{first_value, last_value}
 
 from_all : (place : ℕ) (ks : List InstanceTime) → ((j : ℕ) (d : InstanceTime) → j < length ks → place ≤ (get_or ks j d).place) → from_place place ks ≡ ks
 from_all place [] all = refl
@@ -33,6 +33,29 @@ pub cut_first : (place : ℕ) (first : InstanceTime) (ks : List InstanceTime) �
 cut_first place first ks early =
     let no : nat_le place first.place ≡ false = grind (arith, early) in
     ap (λ t. cond t (first ∷ from_place place ks) (from_place place ks)) no
+
+-- ---- before a place
+
+before_all : (place : ℕ) (ks : List InstanceTime) → ((j : ℕ) (d : InstanceTime) → j < length ks → (get_or ks j d).place < place) → before_place place ks ≡ ks
+before_all place [] all = refl
+before_all place (k ∷ ks) all =
+    let here : k.place < place = all 0 k (omega arith) in
+    let yes : nat_lt k.place place ≡ true = grind (arith, here) in
+    ap (λ t. cond t (k ∷ before_place place ks) (before_place place ks)) yes
+    ∙ ap (λ rest. k ∷ rest) (before_all place ks (λ j d inside. all (suc j) d (omega (arith, inside))))
+
+-- nothing is taken out where the last stays
+pub before_back : (place : ℕ) (ks : List InstanceTime) (last : InstanceTime) → IsInOrder ks → last ≡ get_or ks (length ks - 1) last → last.place < place → before_place place ks ≡ ks
+before_back place ks last order is_last early =
+    before_all place ks (λ j d inside. let up : (get_or ks j last).place ≤ (get_or ks (length ks - 1) last).place = order j (length ks - 1) last (omega (arith, inside)) (omega (arith, inside)) in let one : last.place ≡ (get_or ks (length ks - 1) last).place = ap (λ (k : InstanceTime). k.place) is_last in let same : (get_or ks j last).place ≡ (get_or ks j d).place = ap (λ (k : InstanceTime). k.place) (default_free ks j last d inside) in omega (arith, up, one, early, same))
+
+-- the last taken out
+pub before_push : (place : ℕ) (ks : List InstanceTime) (last : InstanceTime) → place ≤ last.place → before_place place (ks ++ last ∷ []) ≡ before_place place ks
+before_push place [] last late =
+    let no : nat_lt last.place place ≡ false = grind (arith, late) in
+    ap (λ t. cond t (last ∷ []) []) no
+before_push place (k ∷ ks) last late =
+    ap (λ rest. cond (nat_lt k.place place) (k ∷ rest) rest) (before_push place ks last late)
 
 -- ---- the last alone
 
@@ -62,6 +85,12 @@ module _ {A : Type 0} (le : A → A → Bool) (order : IsOrder le) (choose : Tim
   replaces_rest ks k ls old new so = λ others same.
       ap (without_value le (choose k.time)) (so others same ∙ first_value le order choose (choose k.time) (values_of choose ls) others)
       ∙ without_with (choose k.time) (poured le (values_of choose ls) others)
+
+  -- the last taken out, with its value, where others went before
+  pub replaces_first : (ks ls : List InstanceTime) (last : InstanceTime) (old new : List A) → Replaces le choose ks (ls ++ last ∷ []) old new → Replaces le choose ks ls old (without_value le (choose last.time) new)
+  replaces_first ks ls last old new so = λ others same.
+      ap (without_value le (choose last.time)) (so others same ∙ last_value le order choose ls last others)
+      ∙ without_with (choose last.time) (poured le (values_of choose ls) others)
 
   -- the last taken out, with its value
   pub undone_last : (kept kept' : List InstanceTime) (own : InstanceTime) (old : List A) → kept ≡ kept' ++ own ∷ [] → IsUndone le choose kept kept' old (without_value le (choose own.time) old)

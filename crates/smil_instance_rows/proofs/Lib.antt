@@ -3,3 +3,4 @@ pub mod Merge
 pub mod Serials
 pub mod Sides
 pub mod Tables
+pub mod Noted

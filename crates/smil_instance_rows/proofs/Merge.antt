@@ -29,7 +29,7 @@ module _ {A : Type 0} (le : A → A → Bool) (order : IsOrder le) (choose : Tim
   later_value None xs into = refl
   later_value (Some x) xs into = poured-put le order x xs into
 
-  last_value : (ks : List InstanceTime) (k : InstanceTime) (into : List A) → poured le (values_of choose (ks ++ k ∷ [])) into ≡ with_value le (choose k.time) (poured le (values_of choose ks) into)
+  pub last_value : (ks : List InstanceTime) (k : InstanceTime) (into : List A) → poured le (values_of choose (ks ++ k ∷ [])) into ≡ with_value le (choose k.time) (poured le (values_of choose ks) into)
   last_value ks k into =
       ap (λ xs. poured le xs into) (filter_map-append (λ (l : InstanceTime). choose l.time) ks (k ∷ []))
       ∙ poured-append le order (values_of choose ks) (values_of choose (k ∷ [])) into

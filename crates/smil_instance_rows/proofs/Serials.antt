@@ -2,7 +2,7 @@
 use Rattle.std.proofs.Common.{◌≡◌, refl, sym, ◌∙◌, ap, ℕ, suc, zero, ◌<◌, List, [], ◌∷◌, ◌++◌, length, Option, Some, None, Bool, true, false, arith}
 use Rattle.std.specs.Prelude.{cond, get_or, set, slice_get, ◌==◌}
 use Rattle.std.specs.Option.{option_map}
-use Rattle.smil_instance_rows.specs.Rows.{ElementTimes}
+use Rattle.smil_instance_rows.specs.Rows.{ElementTimes, rows_before}
 use Rattle.smil_instance_rows.specs.Readings.{index_in, row_in}
 
 abbrev pub found : List ElementTimes → Option ℕ → Option ElementTimes
@@ -50,3 +50,8 @@ index_pushed (r ∷ rs) row who none =
     step true false p q = refl
     step false true p q = refl
     step false false p q = refl
+
+-- rows of which less is kept
+pub index_before : (place : ℕ) (rows : List ElementTimes) (who : ℕ) → index_in (rows_before place rows) who ≡ index_in rows who
+index_before place [] who = refl
+index_before place (r ∷ rs) who = ap (λ o. cond (r.serial == who) (Some 0) (option_map suc o)) (index_before place rs who)

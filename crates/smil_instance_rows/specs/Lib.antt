@@ -4,3 +4,4 @@ pub mod Places
 pub mod Readings
 pub mod Rows
 pub mod Values
+pub mod Notes

@@ -22,6 +22,10 @@ TakesFirst place old new first = (old ≡ first ∷ new) × (first.place < place
 abbrev pub TakesMore : List InstanceTime → List InstanceTime → InstanceTime → Type 0
 TakesMore old new first = (old ≡ first ∷ new) × (0 < length new)
 
+-- the last was taken out, and it is of this place or a later one
+abbrev pub TakesLast : ℕ → List InstanceTime → List InstanceTime → InstanceTime → Type 0
+TakesLast place old new last = (old ≡ new ++ last ∷ []) × (place ≤ last.place)
+
 -- the last of a list, alone
 abbrev pub last_alone : {A : Type 0} → List A → List A
 last_alone [] = []

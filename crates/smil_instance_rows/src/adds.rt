@@ -22,8 +22,8 @@ pub fn add_each(rows: &mut Rows, adds: &[Add]) -> Result<(), AllocError>
     Ok(())
 }
 
-// Takes out what the first adds added, the last of them first.
-fn undo_each(rows: &mut Rows, adds: &[Add], made: usize)
+/// Takes out what the first adds added, the last of them first. It takes no memory.
+pub fn undo_each(rows: &mut Rows, adds: &[Add], made: usize)
     requires made { made ≤ length adds.now }
     requires some { SomeMade rows.old adds.now made }
     ensures { IsAsBefore rows.old adds.now made rows.new }

@@ -1,9 +1,9 @@
 //! The times that entries gave to an item, in the order of the entries.
 
-ghost use Rattle.std.specs.Prelude.{◌≡◌, List, [], ◌∷◌, ◌++◌, OnOk, OnErr, IfSome, IfNone, ◌≤◌, ◌<◌, length};
-ghost use Rattle.smil_instance_rows.specs.Rows.{from_place};
+ghost use Rattle.std.specs.Prelude.{◌≡◌, List, [], ◌∷◌, ◌++◌, OnOk, OnErr, IfSome, IfNone, ◌≤◌, ◌<◌, length, false};
+ghost use Rattle.smil_instance_rows.specs.Rows.{from_place, before_place};
 ghost use Rattle.smil_instance_rows.specs.Values.{with_value, without_value};
-ghost use Rattle.smil_instance_rows.specs.Places.{IsNotAfter, TakesFirst, TakesMore, last_alone, Replaces, IsUndone};
+ghost use Rattle.smil_instance_rows.specs.Places.{IsNotAfter, TakesFirst, TakesMore, last_alone, Replaces, IsUndone, TakesLast};
 
 use super::instant::Instant;
 use super::sorted::SortedList;
@@ -91,6 +91,42 @@ impl ItemTimes {
         self.kept.pop_front()
     }
 
+    /// Takes the last out, if it is of this place or a later one; else all stays. It takes no
+    /// memory.
+    pub fn pop_from(&mut self, place: usize) -> Option<InstanceTime>
+        ensures some { IfSome result (TakesLast place self.old self.new) }
+        ensures none { IfNone result ((self.new ≡ self.old)
+            × (before_place place self.old ≡ self.old)) }
+    {
+        match self.kept.back() {
+            Some(last) => {
+                if last.place < place {
+                    return None;
+                }
+            }
+            None => return None,
+        }
+        self.kept.pop_back()
+    }
+
+    /// Whether the first is of a place before this one; false where there is none. It takes no
+    /// memory.
+    pub fn has_before(&self, place: usize) -> bool
+        ensures { result ≡ false → (from_place place self.now ≡ self.now) }
+    {
+        match self.kept.front() {
+            Some(first) => first.place < place,
+            None => false,
+        }
+    }
+
+    /// Whether there is more than one. It takes no memory.
+    pub fn has_more(&self) -> bool
+        ensures { result ≡ false → (last_alone self.now ≡ self.now) }
+    {
+        self.kept.len() > 1
+    }
+
     /// Takes the first out, if it is not the only one; else all stays. It takes no memory.
     pub fn pop_more(&mut self) -> Option<InstanceTime>
         ensures some { IfSome result (TakesMore self.old self.new) }
@@ -138,6 +174,16 @@ pub fn cut<T: Instant>(kept: &mut ItemTimes, sorted: &mut SortedList<T>, place: 
 {
     while let Some(first) = kept.pop_before(place) {
         take_out_value(sorted, first.time);
+    }
+}
+
+/// Takes out what is of this place or a later one, with its values. It takes no memory.
+pub fn cut_later<T: Instant>(kept: &mut ItemTimes, sorted: &mut SortedList<T>, place: usize)
+    ensures kept { kept.new ≡ before_place place kept.old }
+    ensures sorted { Replaces T.at_most T.choose kept.old kept.new sorted.old sorted.new }
+{
+    while let Some(last) = kept.pop_from(place) {
+        take_out_value(sorted, last.time);
     }
 }
 

@@ -1,9 +1,10 @@
 //! The instance times of an element.
 
-ghost use Rattle.std.specs.Prelude.{◌≡◌, List, [], ◌∷◌, ◌++◌, OnOk, OnErr, ◌<◌, length};
+ghost use Rattle.smil_instance_rows.specs.Notes.{row_with_times};
+ghost use Rattle.std.specs.Prelude.{◌≡◌, List, [], ◌∷◌, ◌++◌, OnOk, OnErr, ◌<◌, length, false};
 ghost use Rattle.std.specs.Option.{option_map_or};
 ghost use Rattle.smil_model.specs.declared.times.Time.TheVariants.{At, Unresolved};
-ghost use Rattle.smil_instance_rows.specs.Rows.{from_place};
+ghost use Rattle.smil_instance_rows.specs.Rows.{from_place, row_before};
 ghost use Rattle.smil_instance_rows.specs.Values.{begins_of, ends_of};
 ghost use Rattle.smil_model.specs.interval.Intervals.{has_any};
 ghost use Rattle.smil_instance_rows.specs.Readings.{row_times, first_from, first_after};
@@ -97,6 +98,51 @@ impl InstanceRow {
         match side {
             Edge::Begin => self.begins.cut(item, place),
             Edge::End => self.ends.cut(item, place),
+        }
+    }
+
+    /// Takes out of all items what is of this place or a later one. It takes no memory.
+    pub fn cut_later(&mut self, place: usize)
+        ensures { self.new ≡ row_before place self.old }
+    {
+        self.begins.cut_later(place);
+        self.ends.cut_later(place);
+    }
+
+    /// Takes over the instance times of a row. It takes no memory.
+    pub fn restore(&mut self, row: InstanceRow)
+        ensures { self.new ≡ row_with_times self.old row }
+    {
+        let InstanceRow {
+            serial: _serial,
+            begins,
+            ends,
+        } = row;
+        self.begins = begins;
+        self.ends = ends;
+    }
+
+    /// Whether an item has an instance time of a place before this one. It takes no memory.
+    pub fn has_before(&self, side: Edge, item: usize, place: usize) -> bool
+        requires { item < length (side_of self.now side) }
+        ensures { result ≡ false → (from_place place (list_of self.now side item)
+            ≡ list_of self.now side item) }
+    {
+        match side {
+            Edge::Begin => self.begins.has_before(item, place),
+            Edge::End => self.ends.has_before(item, place),
+        }
+    }
+
+    /// Whether an item has more than one instance time. It takes no memory.
+    pub fn has_more(&self, side: Edge, item: usize) -> bool
+        requires { item < length (side_of self.now side) }
+        ensures { result ≡ false → (last_alone (list_of self.now side item)
+            ≡ list_of self.now side item) }
+    {
+        match side {
+            Edge::Begin => self.begins.has_more(item),
+            Edge::End => self.ends.has_more(item),
         }
     }
 

@@ -1,9 +1,10 @@
 //! The instance times of all elements.
 
-ghost use Rattle.std.specs.Prelude.{◌≡◌, List, [], ◌∷◌, ◌++◌, OnOk, OnErr, ◌<◌, length, None, option_copied, option_map, slice_get};
-ghost use Rattle.smil_instance_rows.specs.Rows.{from_place, ElementTimes};
+ghost use Rattle.smil_instance_rows.specs.Notes.{times_put};
+ghost use Rattle.std.specs.Prelude.{◌≡◌, List, [], ◌∷◌, ◌++◌, OnOk, OnErr, ◌<◌, length, None, option_copied, option_map, slice_get, false, IfOk};
+ghost use Rattle.smil_instance_rows.specs.Rows.{from_place, ElementTimes, rows_before};
 ghost use Rattle.smil_instance_rows.specs.Places.{IsNotAfter, EndsWith, last_alone};
-ghost use Rattle.smil_instance_rows.specs.Changes.{HasCell, cell_of, with_cell};
+ghost use Rattle.smil_instance_rows.specs.Changes.{HasCell, cell_of, with_cell, row_at};
 ghost use Rattle.smil_instance_rows.specs.Readings.{index_in, row_in, begins_in, ends_in, times_in, first_from, first_after};
 ghost use Rattle.smil_model.specs.interval.Intervals.{has_any};
 
@@ -65,8 +66,8 @@ impl Rows {
         }
     }
 
-    // How many rows there are.
-    fn len(&self) -> usize
+    /// How many rows there are. It takes no memory.
+    pub fn len(&self) -> usize
         ensures { result ≡ length self.now }
     {
         self.rows.len()
@@ -125,6 +126,49 @@ impl Rows {
             (λ first last. self.new ≡ with_cell self.old cell first) }
     {
         self.rows[cell.row].undo(cell.side, cell.item);
+    }
+
+    /// Takes out of all items what is of this place or a later one. It takes no memory.
+    pub fn cut_later(&mut self, place: usize)
+        ensures { self.new ≡ rows_before place self.old }
+    {
+        cut_each(&mut self.rows, place);
+    }
+
+    /// Puts the instance times of a row in the place of those of the row with this index; where
+    /// there is none nothing changes. It takes no memory.
+    pub fn restore(&mut self, index: usize, row: InstanceRow)
+        ensures { self.new ≡ times_put self.old index row }
+    {
+        if index < self.rows.len() {
+            self.rows[index].restore(row);
+        }
+    }
+
+    /// A copy of the row with this index, unless memory runs out.
+    pub fn copy_of(&self, index: usize) -> Result<InstanceRow, AllocError>
+        requires { index < length self.now }
+        ensures { IfOk result (λ row. row ≡ row_at self.now index) }
+    {
+        self.rows[index].copy()
+    }
+
+    /// Whether an item has an instance time of a place before this one. It takes no memory.
+    pub fn has_before(&self, cell: Cell, place: usize) -> bool
+        requires { HasCell self.now cell }
+        ensures { result ≡ false → (from_place place (cell_of self.now cell)
+            ≡ cell_of self.now cell) }
+    {
+        self.rows[cell.row].has_before(cell.side, cell.item, place)
+    }
+
+    /// Whether an item has more than one instance time. It takes no memory.
+    pub fn has_more(&self, cell: Cell) -> bool
+        requires { HasCell self.now cell }
+        ensures { result ≡ false → (last_alone (cell_of self.now cell)
+            ≡ cell_of self.now cell) }
+    {
+        self.rows[cell.row].has_more(cell.side, cell.item)
     }
 
     /// The begins of an element, in rising order; none where it has no row. It takes no memory.
@@ -210,5 +254,14 @@ impl Rows {
         ensures { option_copied result ≡ slice_get self.now index }
     {
         self.rows.get(index)
+    }
+}
+
+// Takes out of all items of each row what is of this place or a later one.
+fn cut_each(rows: &mut [InstanceRow], place: usize)
+    ensures { rows.new ≡ rows_before place rows.old }
+{
+    for row in rows.iter_mut() {
+        row.cut_later(place);
     }
 }

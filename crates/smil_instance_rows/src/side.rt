@@ -1,13 +1,13 @@
 //! The instance times of one list of items, and their values in rising order.
 
-ghost use Rattle.std.specs.Prelude.{◌≡◌, List, [], ◌∷◌, ◌++◌, OnOk, OnErr, ◌<◌, length, get_or, set, not, find};
-ghost use Rattle.smil_instance_rows.specs.Rows.{from_place};
+ghost use Rattle.std.specs.Prelude.{◌≡◌, List, [], ◌∷◌, ◌++◌, OnOk, OnErr, ◌<◌, length, get_or, set, not, find, false, map};
+ghost use Rattle.smil_instance_rows.specs.Rows.{from_place, before_place};
 ghost use Rattle.smil_instance_rows.specs.Values.{merged};
 ghost use Rattle.smil_instance_rows.specs.Places.{IsNotAfter, EndsWith, last_alone};
 
 use super::copies::copy_each;
 use super::instant::Instant;
-use super::item_times::{InstanceTime, ItemTimes, add, cut, keep_last, undo};
+use super::item_times::{InstanceTime, ItemTimes, add, cut, cut_later, keep_last, undo};
 use super::sorted::SortedList;
 use smil_model::Duplicate;
 use std::alloc::{AllocError, Global};
@@ -79,6 +79,41 @@ impl<T: Instant> Side<T> {
         ensures { self.new ≡ set self.old item (from_place place (get_or self.old item [])) }
     {
         cut(&mut self.items[item], &mut self.sorted, place);
+    }
+
+    /// Takes out of all items what is of this place or a later one. It takes no memory.
+    pub fn cut_later(&mut self, place: usize)
+        ensures { self.new ≡ map (before_place place) self.old }
+    {
+        for item in 0..self.items.len() {
+            self.cut_later_at(item, place);
+        }
+    }
+
+    // Takes out of an item what is of this place or a later one.
+    fn cut_later_at(&mut self, item: usize, place: usize)
+        requires { item < length self.old }
+        ensures { self.new ≡ set self.old item (before_place place (get_or self.old item [])) }
+    {
+        cut_later(&mut self.items[item], &mut self.sorted, place);
+    }
+
+    /// Whether an item has an instance time of a place before this one. It takes no memory.
+    pub fn has_before(&self, item: usize, place: usize) -> bool
+        requires { item < length self.now }
+        ensures { result ≡ false → (from_place place (get_or self.now item [])
+            ≡ get_or self.now item []) }
+    {
+        self.items[item].has_before(place)
+    }
+
+    /// Whether an item has more than one instance time. It takes no memory.
+    pub fn has_more(&self, item: usize) -> bool
+        requires { item < length self.now }
+        ensures { result ≡ false → (last_alone (get_or self.now item [])
+            ≡ get_or self.now item []) }
+    {
+        self.items[item].has_more()
     }
 
     /// Takes out of an item all but the last instance time. It takes no memory.

@@ -1,24 +1,17 @@
 -- Which steps can change what is kept for an item.
-use Rattle.std.specs.Prelude.{ℕ, List, Bool, false, ◌||◌, ◌==◌, Option, Some, None}
+use Rattle.std.specs.Prelude.{ℕ, List, Bool, false, ◌||◌, Option, Some, None}
 use Rattle.smil_model.specs.declared.diary.LogEntry.{LogEntry}
 use Rattle.smil_model.specs.declared.diary.Step.{Step}
-use Rattle.smil_model.specs.declared.diary.Step.TheVariants.{Began, Ended, Cut}
 use Rattle.smil_model.specs.declared.document.Node.{Node}
 use Rattle.smil_model.specs.declared.document.Edge.{Edge}
-use Rattle.smil_model.specs.declared.document.Edge.TheVariants.{Begin, End}
+use Rattle.smil_model.specs.declared.document.Edge.TheVariants.{End}
 use Rattle.smil_model.specs.declared.document.Item.{Item}
 use Rattle.smil_model.specs.declared.document.Item.TheVariants.{Offset, Sync, Event, Repeat, Key, Indefinite}
 use Rattle.smil_model.specs.document.Document.{element_named, previous_in_seq, time_parent, target}
 use Rattle.smil_model.specs.diary.Plays.{is_birth_under}
 use Rattle.smil_model.specs.interval.Instances.{is_press}
 use Rattle.smil_model.specs.reach.Reach.{subject_of, is_option}
-
--- whether the step is the begin, or an end, of x
-abbrev pub is_edge : Edge → ℕ → Step → Bool
-is_edge Begin x (Began who begin) = who == x
-is_edge End x (Ended who end') = who == x
-is_edge End x (Cut who) = who == x
-is_edge _ x _ = false
+use Rattle.smil_instances.specs.Contribution.{is_edge}
 
 -- whether the step is a birth of the element: the begin or a repeat of its time parent
 abbrev pub is_reset_by : List Node → ℕ → Step → Bool

@@ -41,3 +41,5 @@ pub mod Unconcerned
 pub mod Ungiven
 pub mod Untouched
 pub mod Updates
+pub mod Going
+pub mod Early

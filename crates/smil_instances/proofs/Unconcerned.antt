@@ -19,7 +19,8 @@ use Rattle.smil_model.specs.diary.Plays.{is_birth_under}
 use Rattle.smil_model.specs.reach.Reach.{subject_of, key_of, logged_key, pressed, is_option, subject, logged_subject}
 use Rattle.smil_instances.specs.declared.source.Source.{Source}
 use Rattle.smil_instances.specs.declared.source.Source.TheVariants as source
-use Rattle.smil_instances.proofs.Changes.{is_edge, may_change, concerns_edges, concerns_heard, concerns_key, concerns_named, concerns_offset, is_reset_by}
+use Rattle.smil_instances.specs.Contribution.{is_edge}
+use Rattle.smil_instances.proofs.Changes.{may_change, concerns_edges, concerns_heard, concerns_key, concerns_named, concerns_offset, is_reset_by}
 use Rattle.smil_instances.specs.Laws.{IsUpTo}
 use Rattle.smil_instances.specs.SettledTimes.{instances_of}
 use Rattle.smil_instances.specs.Sources.{eventbase, is_concerned, is_keyed, source_of, syncbase_or}

@@ -1,14 +1,14 @@
 -- Entries that give nothing to an item.
-use Rattle.std.proofs.Common.{◌≡◌, refl, sym, ◌∙◌, ap, ℕ, List, length, Option, Some, None, Bool, true, false, arith}
-use Rattle.std.specs.Prelude.{not, is_some, slice_get, option_map, ◌==◌}
+use Rattle.std.proofs.Common.{◌≡◌, refl, sym, ◌∙◌, ap, ℕ, List, length, Option, Some, None, false}
+use Rattle.std.specs.Prelude.{not, is_some, slice_get, option_map}
 use Rattle.smil_model.specs.declared.times.Time.{Time}
 use Rattle.smil_model.specs.declared.diary.Entry.{Entry}
 use Rattle.smil_model.specs.declared.diary.LogEntry.{LogEntry}
 use Rattle.smil_model.specs.declared.diary.Step.{Step}
-use Rattle.smil_model.specs.declared.diary.Step.TheVariants.{Began, Repeated, Ended, Cut}
+use Rattle.smil_model.specs.declared.diary.Step.TheVariants.{Began, Repeated}
 use Rattle.smil_model.specs.declared.document.Node.{Node}
 use Rattle.smil_model.specs.declared.document.Edge.{Edge}
-use Rattle.smil_model.specs.declared.document.Edge.TheVariants.{Begin, End}
+use Rattle.smil_model.specs.declared.document.Edge.TheVariants.{End}
 use Rattle.smil_model.specs.declared.document.Item.{Item}
 use Rattle.smil_model.specs.declared.document.Item.TheVariants.{Offset, Sync, Event, Repeat, Key, Indefinite}
 use Rattle.smil_model.specs.document.Document.{elements, element_named, previous_in_seq, target, time_parent}
@@ -16,7 +16,7 @@ use Rattle.smil_model.specs.document.Defaults.{items_of}
 use Rattle.smil_model.specs.diary.Diary.{History, up_to, with_entry}
 use Rattle.smil_model.specs.diary.Plays.{is_birth_under}
 use Rattle.smil_model.specs.interval.Instances.{edge_time, is_press}
-use Rattle.smil_model.specs.reach.Reach.{is_option, subject_of}
+use Rattle.smil_model.specs.reach.Reach.{subject_of}
 use Rattle.smil_laws.specs.Resolved.{is_opening}
 use Rattle.smil_instance_rows.specs.declared.cell.Cell.{Cell}
 use Rattle.smil_instance_rows.specs.Rows.{ElementTimes, at_place}
@@ -26,7 +26,6 @@ use Rattle.smil_instances.specs.Sources.{eventbase, source_at, source_by, source
 use Rattle.smil_instances.specs.Contribution.{given_at, given_edge, given_event, given_repeat, may_give, offset_given}
 use Rattle.smil_instances.specs.Intake.{AreRowsOf, given_item, given_to, given_under}
 use Rattle.smil_instances.specs.SettledTimes.{event_instances, heard_time, instances_of, named_instances, occurs_event, occurs_key, occurs_repeat, offset_instances, repeat_instances}
-use Rattle.smil_instances.proofs.Changes.{is_edge}
 use Rattle.smil_instances.proofs.Concerned.{source_here}
 use Rattle.smil_instances.proofs.Extents.{serial_there}
 use Rattle.smil_instances.proofs.NextTimes.{next_event, next_named, next_of, next_offset, next_repeat}
@@ -35,13 +34,6 @@ use Rattle.smil_instances.proofs.Unconcerned.{no_press}
 use Rattle.smil_instances.proofs.Untouched.{edges_left, event_other, heard_left, other_edge, repeat_other, start_left, unheard}
 
 -- ---- by the source of the item
-
--- a step that is not on x is no begin or end of x
-edge_off : (log : List LogEntry) (edge : Edge) (x : ℕ) (step : Step) → is_option x (subject_of log step) ≡ false → is_edge edge x step ≡ false
-edge_off log Begin x (Began who begin) q = let r : who == x ≡ false = grind (arith, q) in r
-edge_off log End x (Ended who end') q = let r : who == x ≡ false = grind (arith, q) in r
-edge_off log End x (Cut who) q = let r : who == x ≡ false = grind (arith, q) in r
-edge_off log _ x _ q = refl
 
 -- a step on an element is no press
 press_off : (log : List LogEntry) (key : ℕ) (step : Step) → not (is_some (subject_of log step)) ≡ false → is_press log key step ≡ false
@@ -52,25 +44,25 @@ press_off log key step q = by (subject_of log step) refl q
     by (Some x) on r = no_press log step x key on
 
 module _ (h : History) (y : Entry) where
-  spared : (e : Node) (side : Edge) (item : Item) → may_give (subject_of h.log y.step) (source_of h.nodes e.serial item) ≡ false → given_at h y e side item ≡ None
+  spared : (e : Node) (side : Edge) (item : Item) → may_give (subject_of h.log y.step) y.step (source_of h.nodes e.serial item) ≡ false → given_at h y e side item ≡ None
   spared e side (Offset offset) q = by (previous_in_seq h.nodes e.serial) q
     where
-      by : (o : Option Node) → may_give (subject_of h.log y.step) (syncbase_or source.Start End o) ≡ false → offset_given h y e.serial offset o ≡ None
+      by : (o : Option Node) → may_give (subject_of h.log y.step) y.step (syncbase_or source.Start End o) ≡ false → offset_given h y e.serial offset o ≡ None
       by None r = cc
-      by (Some x) r = ap (at_place (length h.diary)) (other_edge h e.serial x.serial offset y.moment End y.step (edge_off h.log End x.serial y.step r))
+      by (Some x) r = ap (at_place (length h.diary)) (other_edge h e.serial x.serial offset y.moment End y.step r)
   spared e side (Sync who edge offset) q = ap (at_place (length h.diary)) (by (element_named h.nodes who) q)
     where
-      by : (o : Option Node) → may_give (subject_of h.log y.step) (syncbase_or source.Nothing edge o) ≡ false → given_edge h y e.serial offset edge o ≡ None
+      by : (o : Option Node) → may_give (subject_of h.log y.step) y.step (syncbase_or source.Nothing edge o) ≡ false → given_edge h y e.serial offset edge o ≡ None
       by None r = refl
-      by (Some x) r = other_edge h e.serial x.serial offset y.moment edge y.step (edge_off h.log edge x.serial y.step r)
+      by (Some x) r = other_edge h e.serial x.serial offset y.moment edge y.step r
   spared e side (Event who name offset) q = ap (at_place (length h.diary)) (by (target h.nodes e.serial who) q)
     where
-      by : (o : Option ℕ) → may_give (subject_of h.log y.step) (eventbase o) ≡ false → given_event h y e side (Event who name offset) offset name o ≡ None
+      by : (o : Option ℕ) → may_give (subject_of h.log y.step) y.step (eventbase o) ≡ false → given_event h y e side (Event who name offset) offset name o ≡ None
       by None r = refl
       by (Some x) r = unheard h y e side (Event who name offset) offset (occurs_event x name) (event_other h.log x name y.step r)
   spared e side (Repeat who n offset) q = ap (at_place (length h.diary)) (by (target h.nodes e.serial who) q)
     where
-      by : (o : Option ℕ) → may_give (subject_of h.log y.step) (eventbase o) ≡ false → given_repeat h y e side (Repeat who n offset) offset n o ≡ None
+      by : (o : Option ℕ) → may_give (subject_of h.log y.step) y.step (eventbase o) ≡ false → given_repeat h y e side (Repeat who n offset) offset n o ≡ None
       by None r = refl
       by (Some x) r = unheard h y e side (Repeat who n offset) offset (occurs_repeat x n) (repeat_other h.log (up_to h h.diary) x n y.step r)
   spared e side (Key key offset) q =
@@ -78,16 +70,16 @@ module _ (h : History) (y : Entry) where
   spared e side Indefinite q = refl
 
   -- an item whose source is of no such entry is given nothing
-  pub none_given : (cell : Cell) → may_give (subject_of h.log y.step) (source_at h.nodes cell) ≡ false → given_to h y cell ≡ None
+  pub none_given : (cell : Cell) → may_give (subject_of h.log y.step) y.step (source_at h.nodes cell) ≡ false → given_to h y cell ≡ None
   none_given cell q = by (slice_get (elements h.nodes) cell.row) refl
     where
-      by_item : (e : Node) (o : Option Item) → may_give (subject_of h.log y.step) (source_by h.nodes e.serial o) ≡ false → given_item h y e cell.side o ≡ None
+      by_item : (e : Node) (o : Option Item) → may_give (subject_of h.log y.step) y.step (source_by h.nodes e.serial o) ≡ false → given_item h y e cell.side o ≡ None
       by_item e None r = refl
       by_item e (Some item) r = spared e cell.side item r
 
       by : (o : Option Node) → slice_get (elements h.nodes) cell.row ≡ o → given_under h y cell o ≡ None
       by None here = refl
-      by (Some e) here = by_item e (slice_get (items_of h.nodes cell.side e) cell.item) (ap (may_give (subject_of h.log y.step)) (sym (source_here h.nodes cell e here)) ∙ q)
+      by (Some e) here = by_item e (slice_get (items_of h.nodes cell.side e) cell.item) (ap (may_give (subject_of h.log y.step) y.step) (sym (source_here h.nodes cell e here)) ∙ q)
 
   -- and so is one of no row
   no_element : (cell : Cell) (o : Option Node) → option_map (λ (n : Node). n.serial) o ≡ None → given_under h y cell o ≡ None

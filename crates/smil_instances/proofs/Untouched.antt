@@ -25,7 +25,8 @@ use Rattle.smil_model.specs.interval.Instances.{edge_time, hears, is_event, is_n
 use Rattle.smil_model.specs.reach.Reach.{subject, subject_of, logged_subject, is_option}
 use Rattle.smil_diary.proofs.PlaceLists.{past-length}
 use Rattle.smil_instances.specs.Laws.{IsUpTo}
-use Rattle.smil_instances.proofs.Changes.{is_edge, is_reset_by, concerns_edges, concerns_offset, concerns_named, concerns_heard, may_change}
+use Rattle.smil_instances.specs.Contribution.{is_edge}
+use Rattle.smil_instances.proofs.Changes.{is_reset_by, concerns_edges, concerns_offset, concerns_named, concerns_heard, may_change}
 use Rattle.smil_instance_rows.specs.Rows.{from_place}
 use Rattle.smil_instances.specs.SettledTimes.{edge_instances, heard_time, heard_instances, offset_instances, named_instances, event_instances, repeat_instances, instances_of, occurs_event, occurs_repeat, occurs_key}
 use Rattle.smil_instances.proofs.NextTimes.{with_time, next_edges, next_heard, next_offset, next_start, next_of, next_named, next_event, next_repeat}

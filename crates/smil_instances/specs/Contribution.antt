@@ -1,10 +1,12 @@
 -- What an entry gives to an item.
-use Rattle.std.specs.Prelude.{ℕ, ℤ, List, length, Option, Some, None, ◌+ℤ◌, pos, if◌then◌else◌, ◌≤ℤ◌, ◌&&◌, Bool, false, true, is_some, not}
+use Rattle.std.specs.Prelude.{ℕ, ℤ, List, length, Option, Some, None, ◌+ℤ◌, pos, if◌then◌else◌, ◌≤ℤ◌, ◌&&◌, ◌==◌, Bool, false, true, is_some, not}
 use Rattle.smil_model.specs.declared.times.Time.{Time}
 use Rattle.smil_model.specs.declared.diary.Entry.{Entry}
+use Rattle.smil_model.specs.declared.diary.Step.{Step}
+use Rattle.smil_model.specs.declared.diary.Step.TheVariants.{Began, Ended, Cut}
 use Rattle.smil_model.specs.declared.document.Node.{Node}
 use Rattle.smil_model.specs.declared.document.Edge.{Edge}
-use Rattle.smil_model.specs.declared.document.Edge.TheVariants.{End}
+use Rattle.smil_model.specs.declared.document.Edge.TheVariants.{Begin, End}
 use Rattle.smil_model.specs.declared.document.Item.{Item}
 use Rattle.smil_model.specs.declared.document.Item.TheVariants.{Offset, Sync, Event, Repeat, Key, Indefinite}
 use Rattle.smil_model.specs.document.Document.{element_named, previous_in_seq, time_parent, target}
@@ -87,13 +89,21 @@ offset_of (Repeat who n offset) = offset
 offset_of (Key key offset) = offset
 offset_of Indefinite = pos 0
 
--- whether an entry on this element, or on none, may give something to an item with this source
-abbrev pub may_give : Option ℕ → Source → Bool
-may_give on source.Start = true
-may_give on (source.Syncbase x edge) = is_option x on
-may_give on (source.Eventbase x) = is_option x on
-may_give on (source.Key key) = not (is_some on)
-may_give on source.Nothing = false
+-- whether the step is the begin, or an end, of x
+abbrev pub is_edge : Edge → ℕ → Step → Bool
+is_edge Begin x (Began who begin) = who == x
+is_edge End x (Ended who end') = who == x
+is_edge End x (Cut who) = who == x
+is_edge _ x _ = false
+
+-- whether an entry with this step, which is on this element or on none, may give something to an
+-- item with this source
+abbrev pub may_give : Option ℕ → Step → Source → Bool
+may_give on step source.Start = true
+may_give on step (source.Syncbase x edge) = is_edge edge x step
+may_give on step (source.Eventbase x) = is_option x on
+may_give on step (source.Key key) = not (is_some on)
+may_give on step source.Nothing = false
 
 -- what an entry gives to an item that means the element `of` or waits for a key:
 -- a time where it is what the item waits for and e hears it

@@ -13,3 +13,4 @@ pub mod SettledTimes
 pub mod Sources
 pub mod Spread
 pub mod Updates
+pub mod Noted

@@ -4,7 +4,7 @@ ghost use Rattle.std.specs.Prelude.{◌≡◌, List, [], ◌∷◌, ◌++◌, On
 ghost use Rattle.smil_model.specs.declared.diary.Entry.{Entry as AnyEntry};
 ghost use Rattle.smil_model.specs.declared.document.Edge.TheVariants as edge;
 ghost use Rattle.smil_model.specs.reach.Reach.{subject_of};
-ghost use Rattle.smil_instances.specs.Contribution.{may_give};
+ghost use Rattle.smil_instances.specs.Contribution.{is_edge, may_give};
 ghost use Rattle.smil_instances.specs.Entry.{HasArrived, HasDependents};
 ghost use Rattle.smil_instances.specs.Intake.{history_with, default_of, IsCellOf, IsUnstated, given_to as gift, adds_to, AreRowsOf};
 
@@ -14,7 +14,7 @@ use super::items::{CellItem, ListItem};
 use super::source::Source;
 use super::steps::subject;
 use smil_instance_rows::{Add, Cell, InstanceTime, Rows};
-use smil_model::{Edge, Item};
+use smil_model::{Edge, Item, Step};
 use std::alloc::AllocError;
 
 /// Puts what the last entry gives to the items of these cells into a list, in their order, in the
@@ -56,22 +56,35 @@ fn given_to(rows: &Rows, cell: Cell, on: Option<u32>, arrival: &Arrival<'_>) -> 
 {
     arrival.history.tree.valid();
     let source = arrival.dependents.source(cell);
-    if !may_give(source, on) {
+    if !may_give(source, on, arrival.last_entry().step) {
         return None;
     }
     let who = rows.serial_at(cell.row)?;
     given_item(arrival, CellItem { cell, who, source })
 }
 
-// Whether an entry on this element, or on none, may give something to an item with this source.
-fn may_give(source: Source, on: Option<u32>) -> bool
-    ensures { result ≡ may_give on source }
+// Whether an entry with this step, which is on this element or on none, may give something to an
+// item with this source.
+fn may_give(source: Source, on: Option<u32>, step: Step) -> bool
+    ensures { result ≡ may_give on step source }
 {
     match source {
         Source::Start => true,
-        Source::Syncbase { of, .. } | Source::Eventbase { of } => on == Some(of),
+        Source::Syncbase { of, edge } => is_edge(edge, of, step),
+        Source::Eventbase { of } => on == Some(of),
         Source::Key { .. } => on.is_none(),
         Source::Nothing => false,
+    }
+}
+
+// Whether a step is the begin, or an end, of an element.
+fn is_edge(edge: Edge, of: u32, step: Step) -> bool
+    ensures { result ≡ is_edge edge of step }
+{
+    match (edge, step) {
+        (Edge::Begin, Step::Began { who, .. }) => who == of,
+        (Edge::End, Step::Ended { who, .. } | Step::Cut { who }) => who == of,
+        _ => false,
     }
 }
 

@@ -9,6 +9,7 @@ ghost use Rattle.smil_model.specs.interval.Instances.{settled_begins, settled_en
 ghost use Rattle.smil_instance_rows.specs.Readings.{begins_in, ends_in, first_after, first_from, times_in};
 ghost use Rattle.smil_model.specs.interval.Intervals.{has_any};
 ghost use Rattle.smil_instances.specs.SettledTimes.{settled_rows};
+ghost use Rattle.smil_instance_rows.specs.Notes.{GoesBackTheSame, no_mark, rows_back};
 ghost use Rattle.smil_stretch.specs.Clocks.{IsLawfulFor};
 ghost use Rattle.smil_instances.specs.Entry.{IsAtHand};
 ghost use Rattle.smil_instances.specs.Dependents.{AreDependentsOf};
@@ -23,7 +24,7 @@ use super::intake::take_in;
 use super::laws::rows_tell_instances;
 use smil_diary::Book;
 use smil_graph::Graph;
-use smil_instance_rows::{Add, Rows};
+use smil_instance_rows::{Add, RowNotes, Rows};
 use smil_model::{Duplicate, Edge, Entry, Log, Time};
 use smil_stretch::Clocks;
 use smil_tree::Tree;
@@ -93,26 +94,29 @@ impl Instances {
 
     /// Takes in the last entry of the book, by the clocks before it: the instance times are those
     /// of the book without it, and then of the whole book. Where memory runs out all is as before.
-    /// It touches the items alone that the entry can concern.
+    /// It touches the items alone that the entry can concern. Where `notes` have a mark, going back
+    /// to it still gives the same: it notes a row before it takes something out of it.
     pub fn note(
         &mut self,
         tree: &Tree,
         clocks: &Clocks,
         log: &Log,
         book: &Book,
+        notes: &mut RowNotes,
     ) -> Result<(), AllocError>
         requires hand { IsAtHand tree.now clocks.now log.now book.now }
         requires taken { (before : List AnyEntry) (y : AnyEntry) → book.now ≡ before ++ y ∷ []
             → IsSettled self.old tree.now log.now before }
         ensures ok { OnOk result (IsSettled self.new tree.now log.now book.now) }
         ensures err { OnErr result (self.new ≡ self.old) }
+        ensures back { GoesBackTheSame self.old.rows notes.old self.new.rows notes.new }
     {
         let arrival = Arrival {
             history: DocumentHistory { tree, log, book },
             dependents: self.dependents.as_ref(),
             clocks,
         };
-        take_in(&mut self.rows, &mut self.adds, &arrival)
+        take_in(&mut self.rows, &mut self.adds, &arrival, notes)
     }
 
     /// Makes these the instance times of the book, whatever they were: the same as noting its
@@ -140,6 +144,7 @@ impl Instances {
         let dependents = self.dependents();
         let mut rows = idle_rows(self.alloc, tree, dependents)?;
         let mut adds = Vec::new(self.alloc);
+        let mut notes = self.notes()?;
         let mut front = Book::new(self.alloc);
         let mut clocks = Clocks::of(self.alloc, tree, &front)?;
         for entry in book.entries() {
@@ -153,10 +158,29 @@ impl Instances {
                 dependents,
                 clocks: &clocks,
             };
-            take_in(&mut rows, &mut adds, &arrival)?;
+            take_in(&mut rows, &mut adds, &arrival, &mut notes)?;
             clocks.follow(*entry);
         }
         Ok(rows)
+    }
+
+    /// Notes without a mark, for these instance times; unless memory runs out.
+    pub fn notes(&self) -> Result<RowNotes, AllocError>
+        ensures { IfOk result (λ notes. notes ≡ no_mark) }
+    {
+        RowNotes::of(self.alloc, self.rows.len())
+    }
+
+    /// Goes back to the mark that the notes have, and takes it away. It takes no memory, and a step
+    /// for each item and for each time that came since.
+    pub fn back(&mut self, notes: &mut RowNotes)
+        ensures rows { self.new ≡ record {
+          rows = rows_back self.old.rows notes.old;
+          dependents = self.old.dependents;
+        } }
+        ensures none { notes.new ≡ no_mark }
+    {
+        notes.back(&mut self.rows);
     }
 
     /// What the items of the document follow from. It takes no memory.

@@ -1,31 +1,37 @@
 //! The last entry of a diary taken into the rows.
 
-ghost use Rattle.std.specs.Prelude.{◌≡◌, List, [], ◌∷◌, ◌++◌, OnOk, OnErr};
+ghost use Rattle.std.specs.Prelude.{◌≡◌, ℕ, List, [], ◌∷◌, ◌++◌, OnOk, OnErr, Some};
 ghost use Rattle.smil_model.specs.declared.diary.Entry.{Entry as AnyEntry};
 ghost use Rattle.smil_model.specs.reach.Reach.{key_of, subject_of};
 ghost use Rattle.smil_laws.specs.Resolved.{is_opening};
 ghost use Rattle.smil_instances.specs.SettledTimes.{settled_rows};
 ghost use Rattle.smil_instances.specs.Sources.{AreThose};
 ghost use Rattle.smil_instances.specs.Entry.{HasArrived, HasDependents};
-ghost use Rattle.smil_instances.specs.Intake.{history_with, is_concerned_cell, keyed_by, AreRowsOf};
+ghost use Rattle.smil_instances.specs.Intake.{history_with, is_concerned_cell, keyed_by, AreRowsOf, AreToItems, HaveItems};
+ghost use Rattle.smil_instances.specs.Noted.{AreNoted, trimmed};
+ghost use Rattle.smil_instance_rows.specs.Changes.{Fits, with_adds};
+ghost use Rattle.smil_instance_rows.specs.Notes.{GoesBackTheSame, HasNoted};
 
 use super::additions::adds_of;
 use super::arrival::Arrival;
 use super::dependents::Dependents;
 use super::laws::{bases_are_elements, entries_are_taken_in, only_concerned_items_change};
+use super::noting::{note_added, note_adds, note_each};
 use super::remainder::{trim_added, trim_each};
 use super::steps::{key, subject};
-use smil_instance_rows::{Add, Cell, Rows, add_each};
+use smil_instance_rows::{Add, Cell, RowNotes, Rows, add_each, undo_each};
 use smil_model::Step;
 use std::alloc::AllocError;
 
 /// Takes in the last entry of the book: adds what it gives to the items that it concerns, and then
 /// takes out what is no longer kept. Where memory runs out the rows are as before. `adds` is room
-/// for what it gives.
+/// for what it gives. Where `notes` have a mark, rows are noted so that going back to it gives the
+/// same.
 pub(crate) fn take_in(
     rows: &mut Rows,
     adds: &mut Vec<Add>,
     arrival: &Arrival<'_>,
+    notes: &mut RowNotes,
 ) -> Result<(), AllocError>
     requires hand { HasArrived arrival.now }
     requires dependents { HasDependents arrival.now }
@@ -35,6 +41,7 @@ pub(crate) fn take_in(
     ensures ok { OnOk result (rows.new ≡ settled_rows
         (history_with arrival.now.history arrival.now.history.book.now)) }
     ensures err { OnErr result (rows.new ≡ rows.old) }
+    ensures back { GoesBackTheSame rows.old notes.old rows.new notes.new }
 {
     arrival.history.tree.valid();
     entries_are_taken_in();
@@ -42,7 +49,7 @@ pub(crate) fn take_in(
     let entry = arrival.last_entry();
     let cells = concerned(rows, arrival, entry.step);
     adds_of(rows, cells, arrival, adds)?;
-    add_each(rows, adds.as_slice())?;
+    add_noted(rows, cells, adds.as_slice(), arrival, notes)?;
     // Only a birth makes that less is kept for an item to which nothing is added.
     if is_birth(entry.step) {
         trim_each(rows, cells, arrival);
@@ -50,6 +57,70 @@ pub(crate) fn take_in(
         trim_added(rows, adds.as_slice(), arrival);
     }
     Ok(())
+}
+
+// Makes these adds, which are what the last entry gives to these cells. Where there is a mark, notes
+// the rows that get times of places before it, and those from which something is to be taken out
+// then; where memory runs out the rows are as before.
+fn add_noted(
+    rows: &mut Rows,
+    cells: &[Cell],
+    adds: &[Add],
+    arrival: &Arrival<'_>,
+    notes: &mut RowNotes,
+) -> Result<(), AllocError>
+    requires hand { HasArrived arrival.now }
+    requires dependents { HasDependents arrival.now }
+    requires rows { AreRowsOf arrival.now.history.tree.now.nodes rows.old }
+    requires fits { Fits rows.old adds.now }
+    requires cells { HaveItems arrival.now.history.tree.now.nodes cells.now }
+    requires items { AreToItems arrival.now.history.tree.now.nodes adds.now }
+    ensures ok { OnOk result (rows.new ≡ with_adds rows.old adds.now) }
+    ensures err { OnErr result (rows.new ≡ rows.old) }
+    ensures back { GoesBackTheSame rows.old notes.old rows.new notes.new }
+    ensures noted { OnOk result ((before : List AnyEntry) (y : AnyEntry) (place : ℕ)
+        → arrival.now.history.book.now ≡ before ++ y ∷ [] → notes.old.mark ≡ Some place
+        → AreNoted (history_with arrival.now.history arrival.now.history.book.now) rows.new
+        notes.new.notes (trimmed (is_opening y.step) cells.now adds.now)) }
+{
+    note_adds(rows, adds, notes)?;
+    add_each(rows, adds)?;
+    match note_losses(rows, cells, adds, arrival, notes) {
+        Ok(()) => Ok(()),
+        Err(error) => {
+            undo_each(rows, adds, adds.len());
+            Err(error)
+        }
+    }
+}
+
+// Where there is a mark, notes the rows from which something is to be taken out.
+fn note_losses(
+    rows: &Rows,
+    cells: &[Cell],
+    adds: &[Add],
+    arrival: &Arrival<'_>,
+    notes: &mut RowNotes,
+) -> Result<(), AllocError>
+    requires hand { HasArrived arrival.now }
+    requires dependents { HasDependents arrival.now }
+    requires rows { AreRowsOf arrival.now.history.tree.now.nodes rows.now }
+    requires cells { HaveItems arrival.now.history.tree.now.nodes cells.now }
+    requires items { AreToItems arrival.now.history.tree.now.nodes adds.now }
+    ensures more { HasNoted rows.now notes.old notes.new }
+    ensures noted { OnOk result ((before : List AnyEntry) (y : AnyEntry) (place : ℕ)
+        → arrival.now.history.book.now ≡ before ++ y ∷ [] → notes.old.mark ≡ Some place
+        → AreNoted (history_with arrival.now.history arrival.now.history.book.now) rows.now
+        notes.new.notes (trimmed (is_opening y.step) cells.now adds.now)) }
+{
+    if notes.place().is_none() {
+        return Ok(());
+    }
+    if is_birth(arrival.last_entry().step) {
+        note_each(rows, cells, arrival, notes)
+    } else {
+        note_added(rows, adds, arrival, notes)
+    }
 }
 
 // The items that an entry with this step concerns.

@@ -21,6 +21,7 @@ mod intake;
 mod items;
 mod keys;
 pub mod laws;
+mod noting;
 mod occurrence;
 mod remainder;
 mod sensitivity;

@@ -12,6 +12,7 @@ use Rattle.smil_laws.specs.Near.{HasNear}
 use Rattle.smil_laws.specs.Cut.{NamesBelow}
 use Rattle.smil_tree.proofs.KinLists.{each_left}
 use Rattle.smil_stretch.proofs.Diaries.{lawful_first}
+use Rattle.smil_instance_rows.specs.Notes.{MarkedRows}
 use Rattle.smil_instances.specs.Intake.{history_of}
 use Rattle.smil_past.specs.declared.chronicle.Chronicle.{Chronicle}
 use Rattle.smil_past.specs.declared.kept.KeptReadings.{KeptReadings}
@@ -20,7 +21,8 @@ use Rattle.smil_past.specs.Readings.{Holds}
 use Rattle.smil_past.specs.Chronicle.{Lags, Tells}
 use Rattle.smil_past.specs.Kept.{AreKept, AreWithin, IsBroughtUp, IsKept, KeepsPast}
 use Rattle.smil_past.proofs.Grown.{holds_longer, holds_shorter}
-use Rattle.smil_past.proofs.Seconds.{backs_none, names_front}
+use Rattle.smil_past.proofs.Catching.{names_front}
+use Rattle.smil_past.proofs.Marks.{backs_none}
 
 -- ---- the first entries of a diary
 
@@ -153,9 +155,9 @@ pub kept_at : (P : KeptReadings → Type 0) (kept : List KeptReadings) (place : 
 kept_at P kept place k at all =
     subst P (get_or_from_slice_get kept place k k at) (all place k (slice_get_within kept place k at))
 
-pub keeps_brought : (document : Document) (log : List LogEntry) (entries : List Entry) (c : Chronicle) (kept : List KeptReadings) → IsBroughtUp document log entries c kept → KeepsPast document log c None None kept
-keeps_brought document log entries c kept brought = record {
+pub keeps_brought : (document : Document) (log : List LogEntry) (entries : List Entry) (c : Chronicle) (noted : MarkedRows) (kept : List KeptReadings) → IsBroughtUp document log entries c kept → KeepsPast document log c noted None kept
+keeps_brought document log entries c noted kept brought = record {
   tells = brought.tells;
-  backs_up = backs_none document log c.book;
+  backs_up = backs_none document log c.book c.readings noted;
   kept_are = subst (λ ds. AreKept document log ds kept) (sym brought.book_is) brought.kept_are;
 }

@@ -1,6 +1,7 @@
 pub mod Clocked
 pub mod Since
 pub mod Shown
+pub mod Counted
 pub mod Stepped
 pub mod Rows
 pub mod Taken
@@ -18,10 +19,12 @@ pub mod References
 pub mod Appended
 pub mod Fronts
 pub mod Grown
-pub mod Seconds
+pub mod Catching
 pub mod Lent
 pub mod Active
 pub mod Makeups
 pub mod Above
 pub mod Playing
 pub mod KeptFronts
+pub mod Marks
+pub mod Emptied

@@ -1,6 +1,6 @@
 -- What an entry makes of rows: nothing of those of other elements.
 use Rattle.std.proofs.Common.{◌≡◌, refl, sym, ◌∙◌, ap, subst, ℕ, ℤ, List, Option, Some, None, Bool, true, false}
-use Rattle.std.specs.Prelude.{cond, ◌==◌, option_map, slice_get, unwrap_or}
+use Rattle.std.specs.Prelude.{cond, ◌==◌, ◌||◌, option_map, slice_get, unwrap_or}
 use Rattle.std.specs.Option.{option_or}
 use Rattle.std.proofs.lemmas.Bool.{eqb-true, eq-eqb}
 use Rattle.std.proofs.lemmas.Option.{same_Some}
@@ -21,7 +21,7 @@ use Rattle.smil_past.specs.declared.plays.facts.PastInterval.{PastInterval}
 use Rattle.smil_past.specs.declared.plays.facts.PlayFacts.{PlayFacts}
 use Rattle.smil_model.specs.reach.Reach.{subject, logged_subject, subject_of}
 use Rattle.smil_past.specs.Rows.{row_of, IsPut, IsOwnTaken}
-use Rattle.smil_past.specs.Followed.{began_row, finished_row, finished_interval, told_by, own_after}
+use Rattle.smil_past.specs.Followed.{began_row, finished_after, finished_row, finished_interval, next_iteration, told_by, own_after}
 
 or_none : (o : Option PastInterval) → option_or o None ≡ o
 or_none None = refl
@@ -31,13 +31,13 @@ abbrev at : ℤ → Step → Entry
 at m step = record { moment = m; step = step }
 
 abbrev began_by : History → ℤ → ℕ → PlayFacts → ℤ → Bool → PlayFacts
-began_by h m s r b t = record { begun = cond t (Some b) r.begun; shown_begun = cond t (Some (to_document h s b m)) r.shown_begun; first = cond t (start_of h s m b) r.first; start = cond t (start_of h s m b) r.start; first_finished = option_or r.first_finished None; last_finished = r.last_finished; shown_deferred = cond t None r.shown_deferred; passed = r.passed; length = r.length }
+began_by h m s r b t = record { begun = cond t (Some b) r.begun; shown_begun = cond t (Some (to_document h s b m)) r.shown_begun; first = cond t (start_of h s m b) r.first; start = cond t (start_of h s m b) r.start; first_finished = option_or r.first_finished None; last_finished = r.last_finished; shown_deferred = cond t None r.shown_deferred; passed = r.passed; length = r.length; paused = cond t false r.paused; iteration = cond t 0 r.iteration; finished = r.finished; began_since_birth = t || r.began_since_birth }
 
 abbrev finished_by : History → ℤ → ℕ → PlayFacts → ℤ → Bool → Bool → PlayFacts
-finished_by h m s r v cut t = record { begun = cond t None r.begun; shown_begun = cond t None r.shown_begun; first = r.first; start = r.start; first_finished = option_or r.first_finished (cond t (finished_interval h s m v cut r.begun r.shown_begun) None); last_finished = option_or (cond t (finished_interval h s m v cut r.begun r.shown_begun) None) r.last_finished; shown_deferred = cond t None r.shown_deferred; passed = r.passed; length = r.length }
+finished_by h m s r v cut t = record { begun = cond t None r.begun; shown_begun = cond t None r.shown_begun; first = r.first; start = r.start; first_finished = option_or r.first_finished (cond t (finished_interval h s m v cut r.begun r.shown_begun) None); last_finished = option_or (cond t (finished_interval h s m v cut r.begun r.shown_begun) None) r.last_finished; shown_deferred = cond t None r.shown_deferred; passed = r.passed; length = r.length; paused = cond t false r.paused; iteration = r.iteration; finished = finished_after (cond t (finished_interval h s m v cut r.begun r.shown_begun) None) r.finished; began_since_birth = r.began_since_birth }
 
 abbrev deferred_by : History → ℤ → ℕ → PlayFacts → ℤ → Bool → PlayFacts
-deferred_by h m s r b t = record { begun = r.begun; shown_begun = r.shown_begun; first = r.first; start = r.start; first_finished = option_or r.first_finished None; last_finished = r.last_finished; shown_deferred = cond t (Some (to_document h s b m)) r.shown_deferred; passed = r.passed; length = r.length }
+deferred_by h m s r b t = record { begun = r.begun; shown_begun = r.shown_begun; first = r.first; start = r.start; first_finished = option_or r.first_finished None; last_finished = r.last_finished; shown_deferred = cond t (Some (to_document h s b m)) r.shown_deferred; passed = r.passed; length = r.length; paused = r.paused; iteration = r.iteration; finished = r.finished; began_since_birth = r.began_since_birth }
 
 fix : (r : PlayFacts) → record r { first_finished = option_or r.first_finished None } ≡ r
 fix r = ap (λ o. record r { first_finished = o }) (or_none r.first_finished)
@@ -68,15 +68,15 @@ own_deferred h e who w b r is on =
 
 quiet_step : (h : History) (m : ℤ) (s : ℕ) (r : PlayFacts) (step : Step) → ((w : ℕ) → subject_of h.log step ≡ Some w → w == s ≡ false) → own_after h (at m step) s r ≡ r
 quiet_step h m s r (Began w b) far = ap (began_by h m s r b) (far w refl) ∙ fix r
-quiet_step h m s r (Repeated w b) far = ap (λ t. record { begun = r.begun; shown_begun = r.shown_begun; first = r.first; start = cond t b r.start; first_finished = option_or r.first_finished None; last_finished = r.last_finished; shown_deferred = r.shown_deferred; passed = r.passed; length = r.length }) (far w refl) ∙ fix r
+quiet_step h m s r (Repeated w b) far = ap (λ t. record { begun = r.begun; shown_begun = r.shown_begun; first = r.first; start = cond t b r.start; first_finished = option_or r.first_finished None; last_finished = r.last_finished; shown_deferred = r.shown_deferred; passed = r.passed; length = r.length; paused = r.paused; iteration = cond t (next_iteration r.began_since_birth r.iteration) r.iteration; finished = r.finished; began_since_birth = r.began_since_birth }) (far w refl) ∙ fix r
 quiet_step h m s r (Ended w b) far = ap (finished_by h m s r b false) (far w refl) ∙ fix r
 quiet_step h m s r (Cut w) far = ap (finished_by h m s r (outer h s m) true) (far w refl) ∙ fix r
-quiet_step h m s r (Paused w) far = fix r
-quiet_step h m s r (Resumed w) far = fix r
+quiet_step h m s r (Paused w) far = ap (λ t. record r { first_finished = option_or r.first_finished None; paused = t || r.paused }) (far w refl) ∙ fix r
+quiet_step h m s r (Resumed w) far = ap (λ t. record r { first_finished = option_or r.first_finished None; paused = cond t false r.paused }) (far w refl) ∙ fix r
 quiet_step h m s r (Deferred w b) far = ap (deferred_by h m s r b) (far w refl) ∙ fix r
-quiet_step h m s r (Passed w b) far = ap (λ t. record { begun = r.begun; shown_begun = r.shown_begun; first = r.first; start = r.start; first_finished = option_or r.first_finished None; last_finished = r.last_finished; shown_deferred = cond t None r.shown_deferred; passed = cond t (greater_begin r.passed b) r.passed; length = r.length }) (far w refl) ∙ fix r
+quiet_step h m s r (Passed w b) far = ap (λ t. record { begun = r.begun; shown_begun = r.shown_begun; first = r.first; start = r.start; first_finished = option_or r.first_finished None; last_finished = r.last_finished; shown_deferred = cond t None r.shown_deferred; passed = cond t (greater_begin r.passed b) r.passed; length = r.length; paused = r.paused; iteration = r.iteration; finished = r.finished; began_since_birth = r.began_since_birth }) (far w refl) ∙ fix r
 quiet_step h m s r (Logged place) far =
-    ap (λ v. record { begun = r.begun; shown_begun = r.shown_begun; first = r.first; start = r.start; first_finished = option_or r.first_finished None; last_finished = r.last_finished; shown_deferred = r.shown_deferred; passed = r.passed; length = v }) (by_entry (slice_get h.log place) far)
+    ap (λ v. record { begun = r.begun; shown_begun = r.shown_begun; first = r.first; start = r.start; first_finished = option_or r.first_finished None; last_finished = r.last_finished; shown_deferred = r.shown_deferred; passed = r.passed; length = v; paused = r.paused; iteration = r.iteration; finished = r.finished; began_since_birth = r.began_since_birth }) (by_entry (slice_get h.log place) far)
     ∙ fix r
   where
     by_entry : (e : Option LogEntry) → ((w : ℕ) → logged_subject e ≡ Some w → w == s ≡ false) → told_by s e r.length ≡ r.length

@@ -196,14 +196,5 @@ rows_are g (n ∷ ns) xs distinct keys has = by_test (is_element n) xs keys has 
 
 -- ---- rows that are put
 
-pub put_none : (who : ℕ) (r : PlayFacts) (rows : List Row) → row_of rows who ≡ None → IsPut who r rows rows
-put_none who r rows none = record { same_keys = refl; rows = λ s. by_test s (who == s) refl }
-  where
-    by_test : (s : ℕ) (t : Bool) → who == s ≡ t → row_of rows s ≡ cond t (option_map (λ (q : PlayFacts). r) (row_of rows s)) (row_of rows s)
-    by_test s true e =
-        let gone : row_of rows s ≡ None = ap (row_of rows) (sym (eqb-true who s e)) ∙ none in
-        gone ∙ sym (ap (option_map (λ (q : PlayFacts). r)) gone)
-    by_test s false e = refl
-
 pub put_set : (who : ℕ) (r : PlayFacts) (rows : List Row) (k : ℕ) → IsFirst who rows k → IsPut who r rows (set rows k (who, r))
 put_set who r rows k is = record { same_keys = set_keys who r rows k is; rows = λ s. set_row who r rows k s is }

@@ -1,5 +1,5 @@
 -- What is kept of an element after one entry more.
-use Rattle.std.proofs.Common.{◌≡◌, refl, sym, ◌∙◌, ap, ℕ, List, [], ◌∷◌, ◌++◌, ℤ, pos, Bool, true, false, Option, Some, None}
+use Rattle.std.proofs.Common.{◌≡◌, refl, sym, ◌∙◌, ap, ℕ, ◌<◌, List, [], ◌∷◌, ◌++◌, length, ℤ, pos, Bool, true, false, Option, Some, None}
 use Rattle.std.specs.Prelude.{cond, int_le, fold, ◌==◌, ◌||◌, ◌&&◌, not, option_map, option_and_then, is_some, unwrap_or, slice_get}
 use Rattle.std.specs.List.{AllByRecursion, last_or}
 use Rattle.std.specs.Option.{option_or}
@@ -11,10 +11,11 @@ use Rattle.smil_model.specs.declared.diary.LogEntry.{LogEntry}
 use Rattle.smil_model.specs.declared.diary.Happening.{Happening}
 use Rattle.smil_model.specs.declared.diary.Happening.TheVariants.{Media}
 use Rattle.smil_model.specs.declared.diary.Step.{Step}
-use Rattle.smil_model.specs.declared.diary.Step.TheVariants.{Began, Ended, Cut, Deferred, Passed, Logged}
+use Rattle.smil_model.specs.declared.diary.Step.TheVariants.{Began, Repeated, Ended, Cut, Deferred, Passed, Logged}
 use Rattle.smil_model.specs.declared.document.Node.{Node}
+use Rattle.smil_model.specs.declared.limits.TheConstants.{DIARY_ENTRIES}
 use Rattle.smil_model.specs.document.Document.{time_parent}
-use Rattle.smil_model.specs.diary.Diary.{History, active_after, is_active, lives_under, is_alive, since_birth, birth, deferral, deferral_after, with_entry}
+use Rattle.smil_model.specs.diary.Diary.{History, active_after, is_active, lives_under, is_alive, since_birth, birth, deferral, deferral_after, iteration_after, with_entry}
 use Rattle.smil_model.specs.diary.Lawful.{IsLawful, has_element, may_begin, is_lawful_step}
 use Rattle.smil_model.specs.diary.Clocks.{outer, to_document, play_start, play_start_after, iteration_start, iteration_start_after}
 use Rattle.smil_model.specs.diary.Plays.{PlayEdge, FinishedInterval, Plays, finish_with, play_after, is_birth_under, plays, first_of, passed, passed_after}
@@ -27,7 +28,8 @@ use Rattle.smil_stretch.proofs.Moments.{EachUntil}
 use Rattle.smil_stretch.proofs.Diaries.{lawful_last}
 use Rattle.smil_past.specs.declared.plays.facts.PastInterval.{PastInterval}
 use Rattle.smil_past.specs.Played.{past_interval, played}
-use Rattle.smil_past.specs.Followed.{is_death_under, begun_after, shown_begun_after, finished_interval, interval_finished_by, shown_deferred_after, told_by, told_after, none_if, row_after}
+use Rattle.smil_past.specs.Followed.{is_death_under, begun_after, shown_begun_after, finished_after, finished_interval, has_begun_after, interval_finished_by, number_after, shown_deferred_after, told_by, told_after, none_if, row_after, zero_if}
+use Rattle.smil_past.proofs.Counted.{begun_step as begun_counted, count_few, count_step, number, number_few, number_step, paused_is}
 use Rattle.smil_past.proofs.Clocked.{document_with, start_with, each_until, each_drop, fold_with}
 use Rattle.smil_past.proofs.Since.{since_hit, since_miss}
 use Rattle.smil_past.proofs.Shown.{plays_with, present_then, finished_then, active_is, plays_until, IsMarked, IsUntil, AreUntil, mark_with, past_with, first_with, last_with, last_more}
@@ -35,7 +37,7 @@ use Rattle.smil_past.proofs.Shown.{plays_with, present_then, finished_then, acti
 abbrev value_of : PlayEdge → ℤ
 value_of m = m.value
 
-module _ (h : History) (y : Entry) (s : ℕ) (lawful : IsLawful (with_entry h y)) (apart : (p : Node) → time_parent h.nodes s ≡ Some p → p.serial == s ≡ false) where
+module _ (h : History) (y : Entry) (s : ℕ) (lawful : IsLawful (with_entry h y)) (apart : (p : Node) → time_parent h.nodes s ≡ Some p → p.serial == s ≡ false) (few : length h.diary < DIARY_ENTRIES) where
   abbrev after : Plays
   after = play_after h s y.moment (plays h s) y.step
 
@@ -371,6 +373,56 @@ module _ (h : History) (y : Entry) (s : ℕ) (lawful : IsLawful (with_entry h y)
           ∙ ap (put_off (with_entry h y)) (same_choice (is_alive (with_entry h y) s) None)
       by_birth false q = by_death q death_now refl
 
+  -- ---- iterations and finished intervals since birth
+
+  abbrev count : Option ℕ → Entry → Option ℕ
+  count before x = iteration_after s before x.step
+
+  abbrev counted : Option ℕ
+  counted = fold count None (since_birth h s)
+
+  began_dead : is_alive h s ≡ false → iteration_after s None y.step ≡ None
+  began_dead dead = by_step y.step (lawful_last h y lawful)
+    where
+      by_own : (who : ℕ) (t : Bool) → who == s ≡ t → (who == s ≡ true → is_alive h s ≡ true) → cond {A = Option ℕ} t (Some 0) None ≡ None
+      by_own who true e own = let never : true ≡ false = sym (own e) ∙ dead in cc
+      by_own who false e own = refl
+
+      by_step : (step : Step) → is_lawful_step h step ≡ true → iteration_after s None step ≡ None
+      by_step (Began who begin) q = by_own who (who == s) refl (own_alive who q)
+      by_step (Repeated who start) q = same_choice (who == s) None
+      by_step _ q = refl
+
+  counted_is : fold count None (since_birth (with_entry h y) s) ≡ none_if birth_now (iteration_after s counted y.step)
+  counted_is = by_birth birth_now refl
+    where
+      by_birth : (t : Bool) → birth_now ≡ t → fold count None (since_birth (with_entry h y) s) ≡ none_if t (iteration_after s counted y.step)
+      by_birth true q = ap (fold count None) (since_hit h y s q)
+      by_birth false q = since_miss h y s count None q began_dead
+
+  number_is : number (fold count None (since_birth (with_entry h y) s)) ≡ zero_if birth_now (number_after s (is_some counted) (number counted) y.step)
+  number_is = ap number counted_is ∙ by_birth birth_now
+    where
+      by_birth : (t : Bool) → number (none_if t (iteration_after s counted y.step)) ≡ zero_if t (number_after s (is_some counted) (number counted) y.step)
+      by_birth true = refl
+      by_birth false = number_step s counted y.step (number_few h s few)
+
+  has_begun : is_some (fold count None (since_birth (with_entry h y) s)) ≡ (not birth_now && has_begun_after s (is_some counted) y.step)
+  has_begun = ap is_some counted_is ∙ by_birth birth_now
+    where
+      by_birth : (t : Bool) → is_some (none_if t (iteration_after s counted y.step)) ≡ (not t && has_begun_after s (is_some counted) y.step)
+      by_birth true = refl
+      by_birth false = begun_counted s counted y.step
+
+  finished_count : length (plays (with_entry h y) s).finished ≡ zero_if birth_now (finished_after (interval_finished_by h s y.moment (option_map value_of (plays h s).present) (present_begin h s) y.step) (length (plays h s).finished))
+  finished_count =
+      ap (λ fs. length fs) finished_is ∙ by_birth birth_now
+      ∙ ap (λ o. zero_if birth_now (finished_after (interval_finished_by h s y.moment (option_map value_of (plays h s).present) o y.step) (length (plays h s).finished))) (sym (shown_of h apart))
+    where
+      by_birth : (t : Bool) → length (cond t [] after.finished) ≡ zero_if t (finished_after (interval_finished_by h s y.moment (option_map value_of (plays h s).present) (option_map (document_value h s) (plays h s).present) y.step) (length (plays h s).finished))
+      by_birth true = refl
+      by_birth false = count_step h s y.moment (plays h s) y.step (count_few h s few)
+
   -- ---- all of it
 
   pub played_with : played (with_entry h y) s ≡ row_after h y s (played h s)
@@ -384,4 +436,8 @@ module _ (h : History) (y : Entry) (s : ℕ) (lawful : IsLawful (with_entry h y)
       let g = deferred_is in
       let i = passed_is in
       let j = media_is in
+      let k = paused_is h y s lawful in
+      let l = number_is in
+      let m = finished_count in
+      let n = has_begun in
       cc

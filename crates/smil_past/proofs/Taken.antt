@@ -48,4 +48,4 @@ module _ (h : History) (y : Entry) (document : Document) (clocks : List NodeCloc
       let known : is_some (find_node h s) ≡ true = found_any s (elements h.nodes) ∙ among in
       subst (λ ns. (q : is_some (find_in ns s) ≡ true) → row_of new s ≡ option_map (child_step ns y.step s) (row_of mid s)) (sym is.same_nodes) (children.rows s) known
       ∙ ap (option_map (child_step h.nodes y.step s)) (own.rows s ∙ ap (λ rows. option_map (own_after h y s) (row_of rows s)) before ∙ ap (option_map (own_after h y s)) (row_known h s known))
-      ∙ ap Some (sym (played_with h y s is.lawful (apart s))))
+      ∙ ap Some (sym (played_with h y s is.lawful (apart s) is.few)))

@@ -1,9 +1,13 @@
--- Chronicles, and a second one that has first entries of the same diary.
-use Rattle.std.specs.Prelude.{◌≡◌, ℕ, ◌≤◌, ◌<◌, List, [], length, take, Option, Some, option_map}
+-- Chronicles, and how they go back to a mark.
+use Rattle.std.specs.Prelude.{◌≡◌, ℕ, ◌≤◌, max, List, [], length, take, Option, Some}
 use Rattle.smil_model.specs.declared.diary.Entry.{Entry}
 use Rattle.smil_model.specs.declared.diary.LogEntry.{LogEntry}
 use Rattle.smil_model.specs.document.Document.{Document}
+use Rattle.smil_instance_rows.specs.Notes.{MarkedRows, rows_back}
+use Rattle.smil_instances.specs.Intake.{history_of}
+use Rattle.smil_instances.specs.SettledTimes.{settled_rows}
 use Rattle.smil_past.specs.declared.chronicle.Chronicle.{Chronicle}
+use Rattle.smil_past.specs.declared.readings.Readings.{Readings}
 use Rattle.smil_past.specs.Past.{IsPossible}
 use Rattle.smil_past.specs.Readings.{Holds, AreReadingsOf}
 
@@ -23,30 +27,24 @@ pub record Lags
   pub first : c.book ≡ take (length c.book) diary
   pub tells : Tells document log c
 
--- so has the second one, where there is one
-abbrev pub LagsIfAny : Document → List LogEntry → List Entry → Option Chronicle → Type 0
-LagsIfAny document log diary second = (c : Chronicle) → second ≡ Some c → Lags document log diary c
+-- the place from which on instance times came after a mark behind so many entries: what is given
+-- before the first entry is of place 0 too
+abbrev pub place_after : ℕ → ℕ
+place_after len = max len 1
 
--- how many entries the second one has
-abbrev pub reach : Option Chronicle → Option ℕ
-reach second = option_map (λ (c : Chronicle). length c.book) second
-
--- what had happened when the mark was made was possible; where the diary is longer now,
--- the second one ends at the mark
+-- what had happened when the mark was made was possible, and going back by the notes gives the
+-- instance times of that
 pub record HoldsAt (document : Document) (log : List LogEntry) (diary : List Entry)
-    (second : Option Chronicle) (mark : ℕ × ℕ) : Type 0 where
+    (readings : Readings) (noted : MarkedRows) (mark : ℕ × ℕ) : Type 0 where
   pub log_within : mark.0 ≤ length log
   pub diary_within : mark.1 ≤ length diary
   pub possible : IsPossible document (take mark.0 log) (take mark.1 diary)
-  pub noted : mark.1 < length diary → reach second ≡ Some mark.1
+  pub place : noted.mark ≡ Some (place_after mark.1)
+  pub rows : rows_back readings.instances.rows noted
+      ≡ settled_rows (history_of document (take mark.0 log) (take mark.1 diary))
 
--- the second one, where there is one, has first entries of the diary,
--- and what is needed to go back where there is a mark
-pub record BacksUp (document : Document) (log : List LogEntry) (diary : List Entry)
-    (second : Option Chronicle) (marked : Option (ℕ × ℕ)) : Type 0 where
-  pub lags : LagsIfAny document log diary second
-  pub at : (mark : ℕ × ℕ) → marked ≡ Some mark → HoldsAt document log diary second mark
-
--- where there is a mark, the second one ends there
-abbrev pub EndsAtMark : Option Chronicle → Option (ℕ × ℕ) → Type 0
-EndsAtMark second marked = (mark : ℕ × ℕ) → marked ≡ Some mark → reach second ≡ Some mark.1
+-- what is needed to go back, where there is a mark
+abbrev pub BacksUp : Document → List LogEntry → List Entry → Readings → MarkedRows
+    → Option (ℕ × ℕ) → Type 0
+BacksUp document log diary readings noted marked =
+    (mark : ℕ × ℕ) → marked ≡ Some mark → HoldsAt document log diary readings noted mark

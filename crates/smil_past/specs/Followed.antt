@@ -1,13 +1,14 @@
 -- What one entry more makes of what is kept of an element.
-use Rattle.std.specs.Prelude.{◌≡◌, ℕ, ℤ, List, Bool, true, false, ◌||◌, ◌==◌, if◌then◌else◌, Option, Some, None, unwrap_or}
+use Rattle.std.specs.Prelude.{◌≡◌, ℕ, ◌+◌, ◌-◌, ◌^◌, ◌<◌, min, ℤ, List, length, Bool, true, false, not, ◌&&◌, ◌||◌, ◌==◌, if◌then◌else◌, Option, Some, None, unwrap_or}
 use Rattle.std.specs.Option.{option_or}
 use Rattle.smil_model.specs.declared.times.Time.{Time}
 use Rattle.smil_model.specs.declared.times.Time.TheVariants.{Unresolved}
 use Rattle.smil_model.specs.declared.diary.Entry.{Entry}
 use Rattle.smil_model.specs.declared.diary.LogEntry.{LogEntry}
 use Rattle.smil_model.specs.declared.diary.Step.{Step}
-use Rattle.smil_model.specs.declared.diary.Step.TheVariants.{Began, Ended, Cut, Deferred, Passed}
+use Rattle.smil_model.specs.declared.diary.Step.TheVariants.{Began, Repeated, Ended, Cut, Paused, Resumed, Deferred, Passed}
 use Rattle.smil_model.specs.declared.document.Node.{Node}
+use Rattle.smil_model.specs.declared.limits.TheConstants.{DIARY_ENTRIES}
 use Rattle.smil_model.specs.document.Document.{Document, time_parent}
 use Rattle.smil_model.specs.diary.Diary.{History, with_entry}
 use Rattle.smil_model.specs.diary.Lawful.{IsLawful}
@@ -76,6 +77,45 @@ told_by s entry before = unwrap_or (length_of s entry (Some before)) Unresolved
 abbrev pub told_after : List LogEntry → ℕ → Time → Step → Time
 told_after log s before step = unwrap_or (length_after log s (Some before) step) Unresolved
 
+-- whether the element is paused
+abbrev pub is_paused_after : ℕ → Bool → Step → Bool
+is_paused_after s before (Began who begin) = if who == s then false else before
+is_paused_after s before (Ended who end') = if who == s then false else before
+is_paused_after s before (Cut who) = if who == s then false else before
+is_paused_after s before (Paused who) = (who == s) || before
+is_paused_after s before (Resumed who) = if who == s then false else before
+is_paused_after s before _ = before
+
+-- one more, up to the greatest number that is kept
+abbrev pub one_more : ℕ → ℕ
+one_more n = min (n + 1) (2 ^ 32 - 1)
+
+-- how many intervals there are with one that finishes
+abbrev pub finished_after : Option PastInterval → ℕ → ℕ
+finished_after None before = before
+finished_after (Some x) before = one_more before
+
+-- the iteration that a repeat starts, where the element began since birth
+abbrev pub next_iteration : Bool → ℕ → ℕ
+next_iteration true before = one_more before
+next_iteration false before = before
+
+-- the number of the iteration
+abbrev pub number_after : ℕ → Bool → ℕ → Step → ℕ
+number_after s began before (Began who begin) = if who == s then 0 else before
+number_after s began before (Repeated who start) =
+    if who == s then next_iteration began before else before
+number_after s began before _ = before
+
+-- whether the element began
+abbrev pub has_begun_after : ℕ → Bool → Step → Bool
+has_begun_after s before (Began who begin) = (who == s) || before
+has_begun_after s before _ = before
+
+-- 0 after it, else what was
+abbrev pub zero_if : Bool → ℕ → ℕ
+zero_if gone before = if gone then 0 else before
+
 -- none after it, else what was
 abbrev pub none_if : {A : Type 0} → Bool → Option A → Option A
 none_if gone before = if gone then None else before
@@ -94,9 +134,14 @@ own_after h y s r = record {
   shown_deferred = shown_deferred_after h s y.moment r.shown_deferred y.step;
   passed = passed_after s r.passed y.step;
   length = told_after h.log s r.length y.step;
+  paused = is_paused_after s r.paused y.step;
+  iteration = number_after s r.began_since_birth r.iteration y.step;
+  finished =
+      finished_after (interval_finished_by h s y.moment r.begun r.shown_begun y.step) r.finished;
+  began_since_birth = has_begun_after s r.began_since_birth y.step;
 }
 
--- what a birth or an end of the time parent leaves: a birth forgets what finished,
+-- what a birth or an end of the time parent leaves: a birth forgets what began, finished,
 -- was deferred or passed since the last one, and after an end nothing is deferred
 abbrev pub child_after : Bool → Bool → PlayFacts → PlayFacts
 child_after birth death r = record r {
@@ -104,6 +149,9 @@ child_after birth death r = record r {
   last_finished = none_if birth r.last_finished;
   shown_deferred = none_if (birth || death) r.shown_deferred;
   passed = none_if birth r.passed;
+  iteration = zero_if birth r.iteration;
+  finished = zero_if birth r.finished;
+  began_since_birth = not birth && r.began_since_birth;
 }
 
 -- what a step leaves of what is kept of an element by its time parent
@@ -124,6 +172,9 @@ began_row h s m begin r = record r {
   first = start_of h s m begin;
   start = start_of h s m begin;
   shown_deferred = None;
+  paused = false;
+  iteration = 0;
+  began_since_birth = true;
 }
 
 abbrev pub finished_row : History → ℕ → ℤ → ℤ → Bool → PlayFacts → PlayFacts
@@ -135,6 +186,9 @@ finished_row h s m finish was_cut r = record r {
   last_finished =
       option_or (finished_interval h s m finish was_cut r.begun r.shown_begun) r.last_finished;
   shown_deferred = None;
+  paused = false;
+  finished =
+      finished_after (finished_interval h s m finish was_cut r.begun r.shown_begun) r.finished;
 }
 
 abbrev pub deferred_row : History → ℕ → ℤ → ℤ → PlayFacts → PlayFacts
@@ -149,6 +203,7 @@ pub record IsEntryAfter (h : History) (y : Entry) (document : Document) (clocks 
   pub same_log : h.log ≡ log
   pub known : AreClocksOf clocks h
   pub lawful : IsLawful (with_entry h y)
+  pub few : length h.diary < DIARY_ENTRIES
 
 -- there is such a history
 pub record MayBeTaken

@@ -5,6 +5,7 @@ use Rattle.smil_model.specs.declared.diary.LogEntry.{LogEntry}
 use Rattle.smil_model.specs.document.Document.{Document}
 use Rattle.smil_past.specs.declared.chronicle.Chronicle.{Chronicle}
 use Rattle.smil_past.specs.declared.kept.KeptReadings.{KeptReadings}
+use Rattle.smil_instance_rows.specs.Notes.{MarkedRows}
 use Rattle.smil_past.specs.Readings.{Holds}
 use Rattle.smil_past.specs.Chronicle.{BacksUp, Tells}
 
@@ -28,11 +29,11 @@ pub record IsBroughtUp (document : Document) (log : List LogEntry) (entries : Li
   pub tells : Tells document log c
   pub kept_are : AreKept document log entries kept
 
--- a document with its log, a chronicle, a second one with first entries of its diary, a mark, and
--- the readings of first entries that are kept
+-- a document with its log, a chronicle, notes to go back by, a mark, and the readings of first
+-- entries that are kept
 pub record KeepsPast
-    (document : Document) (log : List LogEntry) (first : Chronicle) (second : Option Chronicle)
+    (document : Document) (log : List LogEntry) (c : Chronicle) (noted : MarkedRows)
     (mark : Option (ℕ × ℕ)) (kept : List KeptReadings) : Type 0 where
-  pub tells : Tells document log first
-  pub backs_up : BacksUp document log first.book second mark
-  pub kept_are : AreKept document log first.book kept
+  pub tells : Tells document log c
+  pub backs_up : BacksUp document log c.book c.readings noted mark
+  pub kept_are : AreKept document log c.book kept

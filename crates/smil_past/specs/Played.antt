@@ -1,10 +1,10 @@
 -- What a diary says of the plays of each element, with what the clocks of each entry's own moment
 -- showed.
-use Rattle.std.specs.Prelude.{Option, ◌≡◌, ℕ, List, map, option_map, option_and_then}
+use Rattle.std.specs.Prelude.{Option, ◌≡◌, ℕ, List, length, map, is_some, option_map, option_and_then}
 use Rattle.smil_model.specs.declared.diary.Entry.{Entry}
 use Rattle.smil_model.specs.declared.document.Node.{Node}
 use Rattle.smil_model.specs.document.Document.{elements, node_at}
-use Rattle.smil_model.specs.diary.Diary.{History, deferral, with_entry}
+use Rattle.smil_model.specs.diary.Diary.{History, deferral, is_paused, iteration, iteration_from, since_birth, with_entry}
 use Rattle.smil_model.specs.diary.Clocks.{play_start, iteration_start}
 use Rattle.smil_model.specs.diary.Plays.{PlayEdge, FinishedInterval, plays, first_of, last_finished, passed}
 use Rattle.smil_model.specs.interval.Current.{media_length}
@@ -36,6 +36,10 @@ played h serial = record {
       option_and_then (λ (x : Entry). deferred_begin h serial x.moment x.step) (deferral h serial);
   passed = passed h serial;
   length = media_length h serial;
+  paused = is_paused h.diary serial;
+  iteration = iteration h serial;
+  finished = length (plays h serial).finished;
+  began_since_birth = is_some (iteration_from serial (since_birth h serial));
 }
 
 -- what is kept of all elements, in document order

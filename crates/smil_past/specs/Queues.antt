@@ -72,6 +72,10 @@ pub record IsPastOf
 abbrev pub unplayed : List Node → List LogEntry → History
 unplayed nodes log = record { nodes = nodes; log = log; diary = [] }
 
+-- the queue without its children
+abbrev pub emptied : QueueState → QueueState
+emptied queue = record { held = []; room = queue.room }
+
 -- ---- the queue of each element, by its serial, after a part of a step
 
 -- whatever the queues were, they are what the change makes of them

@@ -14,6 +14,10 @@ use Rattle.smil_past.specs.Followed.{own_after, child_after, child_step}
 abbrev pub idle_row : ℕ → ℕ × PlayFacts
 idle_row s = (s, IDLE)
 
+-- the row of the same element as if nothing had happened to it yet
+abbrev pub reset_row : ℕ × PlayFacts → ℕ × PlayFacts
+reset_row row = (row.0, IDLE)
+
 -- what a list of rows has for an element
 abbrev pub row_of : List (ℕ × PlayFacts) → ℕ → Option PlayFacts
 row_of rows s =

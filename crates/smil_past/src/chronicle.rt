@@ -1,15 +1,18 @@
 //! A diary, with its readings.
 
-ghost use Rattle.std.specs.Prelude.{◌≡◌, List, [], ◌∷◌, ◌++◌, length, OnOk, OnErr, IfOk, IfErr};
+ghost use Rattle.std.specs.Prelude.{◌≡◌, ◌≤◌, List, [], ◌∷◌, ◌++◌, length, take, OnOk, OnErr, IfOk, IfErr};
 ghost use Rattle.smil_model.specs.declared.limits.TheConstants as limits;
 ghost use Rattle.smil_model.specs.declared.diary.LogEntry.{LogEntry as AnyLogEntry};
 ghost use Rattle.smil_diary.specs.declared.fault.BookFault.TheVariants as book_fault;
 ghost use Rattle.smil_past.specs.Past.{IsPossible, MayFollow, unmarked};
+ghost use Rattle.smil_instance_rows.specs.Notes.{GoesBackTheSame};
+ghost use Rattle.smil_past.specs.Readings.{MayGoBack};
 ghost use Rattle.smil_past.specs.Chronicle.{Lags, Tells, TellsNothing};
 
 use super::readings::Readings;
 use smil_diary::{Book, BookFault};
 use smil_graph::Graph;
+use smil_instance_rows::RowNotes;
 use smil_instances::DocumentHistory;
 use smil_model::{Duplicate, Entry, Log};
 use smil_tree::Tree;
@@ -54,8 +57,15 @@ impl Chronicle {
     }
 
     /// Appends an entry, which may follow. `DiaryFull` only where the diary is full; after a
-    /// refusal all is as before. It touches what the entry concerns alone.
-    pub fn push(&mut self, tree: &Tree, log: &Log, entry: Entry) -> Result<(), BookFault>
+    /// refusal all is as before. It touches what the entry concerns alone. Where `notes` have a
+    /// mark, going back to it still gives the same instance times.
+    pub fn push(
+        &mut self,
+        tree: &Tree,
+        log: &Log,
+        entry: Entry,
+        notes: &mut RowNotes,
+    ) -> Result<(), BookFault>
         requires tells { Tells tree.now log.now self.old }
         requires follows { MayFollow (unmarked tree.now log.now self.old.book) entry }
         ensures tells { OnOk result (Tells tree.now log.now self.new) }
@@ -63,11 +73,13 @@ impl Chronicle {
         ensures err { OnErr result (self.new ≡ self.old) }
         ensures full { IfErr result (λ fault. fault ≡ book_fault.DiaryFull → length self.old.book
             ≡ limits.DIARY_ENTRIES) }
+        ensures back { GoesBackTheSame self.old.readings.instances.rows notes.old
+            self.new.readings.instances.rows notes.new }
     {
         self.book.push(entry)?;
         let book = &self.book;
         let history = DocumentHistory { tree, log, book };
-        match self.readings.take_in(&history, entry) {
+        match self.readings.take_in(&history, entry, notes) {
             Ok(()) => Ok(()),
             Err(_) => {
                 let len = self.book.len();
@@ -75,6 +87,21 @@ impl Chronicle {
                 Err(BookFault::Memory)
             }
         }
+    }
+
+    /// Goes back to the first `len` entries, behind which the notes have their mark, and takes that
+    /// away. It takes no memory, a step for each entry and what following it takes.
+    pub fn back(&mut self, tree: &Tree, log: &Log, len: usize, notes: &mut RowNotes)
+        requires within { len ≤ length self.old.book }
+        requires back { MayGoBack self.old.readings notes.old tree.now log.now
+            (take len self.old.book) }
+        ensures tells { Tells tree.now log.now self.new }
+        ensures book { self.new.book ≡ take len self.old.book }
+    {
+        self.book.cut_back(len);
+        let book = &self.book;
+        let history = DocumentHistory { tree, log, book };
+        self.readings.back(&history, notes);
     }
 
     /// Appends those of these entries that it lacks; where memory runs out, the first of them. All
@@ -85,8 +112,9 @@ impl Chronicle {
         ensures lags { Lags tree.now log.now entries.now self.new }
         ensures ok { OnOk result (self.new.book ≡ entries.now) }
     {
+        let mut notes = self.readings.instances.notes()?;
         for entry in &entries[self.book.len()..] {
-            let Ok(()) = self.push(tree, log, *entry) else {
+            let Ok(()) = self.push(tree, log, *entry, &mut notes) else {
                 return Err(AllocError);
             };
         }

@@ -13,7 +13,6 @@ ghost use Rattle.smil_past.specs.Makeups.{makeup_of};
 ghost use Rattle.smil_past.specs.Syncs.{all_syncs};
 ghost use Rattle.smil_instances.specs.Instances.{IsSettled};
 ghost use Rattle.smil_diary.specs.declared.fault.BookFault.TheVariants as book_fault;
-ghost use Rattle.smil_past.specs.Chronicle.{BacksUp, EndsAtMark, LagsIfAny, Tells, reach};
 ghost use Rattle.smil_past.specs.Past.{IsPossible, MayFollow, MayHear, history_of, with_diary, with_heard, at_mark};
 
 use super::chronicle::Chronicle;
@@ -25,6 +24,7 @@ use super::queues::Queues;
 use super::syncs::Syncs;
 use smil_diary::{Book, BookFault};
 use smil_graph::Graph;
+use smil_instance_rows::RowNotes;
 use smil_instances::Instances;
 use smil_model::{Duplicate, Entry, Log, LogEntry, Step};
 use smil_stretch::Clocks;
@@ -36,14 +36,14 @@ use std::rc::Rc;
 
 /// A document, its log and its diary so far, with the graph of the document, the clocks, the plays,
 /// the queues of excls and the instance times that these give; seen as the first three, and, where
-/// there is a mark, how long log and diary were when it was made. A second chronicle has the first
-/// entries of the diary; once an entry was appended after the mark, those up to the mark. Readings
-/// of first entries of the diary are kept so that `front` can begin with them.
+/// there is a mark, how long log and diary were when it was made. By the notes the instance times
+/// go back to the mark. Readings of first entries of the diary are kept so that `front` can begin
+/// with them.
 pub struct Past {
     document: Rc<PreparedDocument>,
     log: Log,
     chronicle: Chronicle,
-    second: Option<Chronicle>,
+    notes: RowNotes,
     mark: Option<(usize, usize)>,
     kept: Vec<KeptReadings>,
     alloc: Global,
@@ -56,7 +56,7 @@ impl Drop for Past {
             document: _document,
             log: _log,
             chronicle: _chronicle,
-            second: _second,
+            notes: _notes,
             mark: _mark,
             kept: _kept,
             alloc: _alloc,
@@ -78,7 +78,7 @@ impl Model for Past {
     } };
 
     ghost invariant = { λ p.
-        KeepsPast p.document.value p.log p.chronicle p.second p.mark p.kept.items };
+        KeepsPast p.document.value p.log p.chronicle p.notes p.mark p.kept.items };
 }
 
 /// A document in place, with its graph.
@@ -122,11 +122,12 @@ impl Past {
         let chronicle = Chronicle::new(alloc, &tree, &graph)?;
         let dependents = chronicle.readings.instances.dependents();
         let syncs = Syncs::of(alloc, &tree, &graph, dependents)?;
+        let notes = chronicle.readings.instances.notes()?;
         Ok(Past {
             document: Rc::new(alloc, PreparedDocument::new(tree, graph, syncs))?,
             log,
             chronicle,
-            second: None,
+            notes,
             mark: None,
             kept: Vec::new(alloc),
             alloc,
@@ -154,9 +155,9 @@ impl Past {
     }
 
     /// Appends an entry, which may follow what has happened. `DiaryFull` only where the diary is
-    /// full; after a refusal all is as before. It touches what the entry concerns alone. The first
-    /// one after a mark also gives the second chronicle the entries that it lacks, so that each
-    /// entry is taken in twice; where there is no second one, it makes a copy of the first.
+    /// full; after a refusal all is as before. It touches what the entry concerns alone. Where there
+    /// is a mark, it takes memory for a copy of an element's instance times before the first of them
+    /// goes.
     pub fn append(&mut self, entry: Entry) -> Result<(), BookFault>
         requires { MayFollow self.old entry }
         ensures ok { OnOk result (self.new ≡ with_diary self.old (self.old.diary ++ entry ∷ [])) }
@@ -165,13 +166,8 @@ impl Past {
             ≡ limits.DIARY_ENTRIES) }
     {
         let tree = self.document.tree();
-        let first = First {
-            tree,
-            log: &self.log,
-            chronicle: &self.chronicle,
-        };
-        note(&mut self.second, &first, self.mark)?;
-        self.chronicle.push(tree, &self.log, entry)?;
+        self.chronicle
+            .push(tree, &self.log, entry, &mut self.notes)?;
         Ok(())
     }
 
@@ -200,8 +196,8 @@ impl Past {
         }
     }
 
-    /// Makes a mark, to which `back` goes back; there is none yet. It takes no memory; the first
-    /// entry after it may, as `append` says.
+    /// Makes a mark, to which `back` goes back; there is none yet. It takes no memory; an entry after
+    /// it may, as `append` says.
     pub fn mark(&mut self)
         requires { self.old.marked ≡ None }
         ensures { self.new ≡ record {
@@ -212,12 +208,14 @@ impl Past {
           marked = Some (length self.old.log, length self.old.diary);
         } }
     {
-        self.mark = Some((self.log.len(), self.chronicle.book.len()));
+        let len = self.chronicle.book.len();
+        self.notes.mark(len.max(1));
+        self.mark = Some((self.log.len(), len));
     }
 
     /// Goes back to where the mark was made; there is one, and afterwards none. It takes no memory.
-    /// Where entries came since, the second chronicle takes the place of the first, which is
-    /// dropped, so that the first entry after the next mark makes a copy.
+    /// Where entries came since, it takes time linear in the document, its instance times and the
+    /// entries before the mark, which the clocks, the plays and the queues follow again.
     pub fn back(&mut self)
         requires { is_some self.old.marked ≡ true }
         ensures { (mark : ℕ × ℕ) → self.old.marked ≡ Some mark → self.new ≡ at_mark self.old mark }
@@ -226,12 +224,14 @@ impl Past {
         self.log.cut_back(log);
         drop_later(&mut self.kept, diary);
         if diary < self.chronicle.book.len() {
-            self.chronicle = self.second.take().unwrap();
+            let tree = self.document.tree();
+            self.chronicle.back(tree, &self.log, diary, &mut self.notes);
+        } else {
+            self.notes.forget();
         }
     }
 
-    /// Takes the mark away; there is one. The second chronicle keeps the entries that it has. It
-    /// takes no memory.
+    /// Takes the mark away; there is one. It takes no memory, and a step for each note.
     pub fn forget(&mut self)
         requires { is_some self.old.marked ≡ true }
         ensures { self.new ≡ record {
@@ -243,6 +243,7 @@ impl Past {
         } }
     {
         self.mark = None;
+        self.notes.forget();
     }
 
     /// What had happened when log and diary had so many entries, over the same document; unless
@@ -270,11 +271,12 @@ impl Past {
         let mut chronicle = nearest(self.alloc, document, book, &kept)?;
         let entries = &book.entries()[..diary];
         catch_up_keeping(&mut chronicle, &mut kept, document.tree(), &heard, entries)?;
+        let notes = chronicle.readings.instances.notes()?;
         Ok(Past {
             document: self.document.clone()?,
             log: heard,
             chronicle,
-            second: None,
+            notes,
             mark: None,
             kept,
             alloc: self.alloc,
@@ -373,7 +375,7 @@ impl Past {
             document: self.document.clone()?,
             log: self.log.copy()?,
             chronicle: self.chronicle.copy()?,
-            second: None,
+            notes: self.chronicle.readings.instances.notes()?,
             mark: None,
             kept: Vec::new(self.alloc),
             alloc: self.alloc,
@@ -396,57 +398,5 @@ fn push(past: &mut Past, entry: Entry) -> Result<(), AllocError>
     match past.append(entry) {
         Ok(()) => Ok(()),
         Err(_) => Err(AllocError),
-    }
-}
-
-// The first chronicle, with the document and the log of which it tells.
-#[derive(Clone, Copy)]
-struct First<'a> {
-    tree: &'a Tree,
-    log: &'a Log,
-    chronicle: &'a Chronicle,
-}
-
-// Where the mark was made at the end of the diary, gives the second chronicle the entries up to it.
-fn note(
-    second: &mut Option<Chronicle>,
-    first: &First<'_>,
-    mark: Option<(usize, usize)>,
-) -> Result<(), AllocError>
-    requires tells { Tells first.now.tree.now first.now.log.now first.now.chronicle.now }
-    requires backs_up { BacksUp first.now.tree.now first.now.log.now first.now.chronicle.now.book
-        second.old mark }
-    ensures backs_up { BacksUp first.now.tree.now first.now.log.now first.now.chronicle.now.book
-        second.new mark }
-    ensures ok { OnOk result (EndsAtMark second.new mark) }
-{
-    let Some((_, len)) = mark else {
-        return Ok(());
-    };
-    if len < first.chronicle.book.len() {
-        return Ok(());
-    }
-    bring_up(second, first)
-}
-
-// Gives the second chronicle the entries of the first that it lacks; where there is none, copies
-// the first.
-fn bring_up(second: &mut Option<Chronicle>, first: &First<'_>) -> Result<(), AllocError>
-    requires tells { Tells first.now.tree.now first.now.log.now first.now.chronicle.now }
-    requires lags { LagsIfAny first.now.tree.now first.now.log.now first.now.chronicle.now.book
-        second.old }
-    ensures lags { LagsIfAny first.now.tree.now first.now.log.now first.now.chronicle.now.book
-        second.new }
-    ensures ok { OnOk result (reach second.new ≡ Some (length first.now.chronicle.now.book)) }
-{
-    match second {
-        Some(lagging) => {
-            let entries = first.chronicle.book.entries();
-            lagging.catch_up(first.tree, first.log, entries)
-        }
-        None => {
-            *second = Some(first.chronicle.copy()?);
-            Ok(())
-        }
     }
 }

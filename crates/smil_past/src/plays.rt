@@ -9,7 +9,7 @@ ghost use Rattle.smil_past.specs.declared.plays.TheConstants.{IDLE};
 ghost use Rattle.smil_model.specs.Times.{IsMoment};
 ghost use Rattle.smil_laws.specs.Near.{HasNear};
 ghost use Rattle.smil_past.specs.Played.{TakesIn, all_played, played_at};
-ghost use Rattle.smil_past.specs.Rows.{AreChildrenTaken, AreAfterParent, IsOwnTaken, IsPut, IsAfterParent, idle_row, row_of};
+ghost use Rattle.smil_past.specs.Rows.{AreChildrenTaken, AreAfterParent, IsOwnTaken, IsAfterParent, idle_row, reset_row, row_of};
 ghost use Rattle.smil_instances.specs.Contribution.{AreClocksAt};
 ghost use Rattle.smil_past.specs.Followed.{IsEntryAfter, MayBeTaken};
 
@@ -37,6 +37,10 @@ const IDLE: PlayFacts = PlayFacts {
     shown_deferred: None,
     passed: None,
     length: Time::Unresolved,
+    paused: false,
+    iteration: 0,
+    finished: 0,
+    began_since_birth: false,
 };
 
 /// What a diary says of the plays of each element, seen as the list of it in document order.
@@ -92,10 +96,11 @@ impl Plays {
     }
 
     /// Takes in an entry that may follow what has happened so far, by the document, the log, and
-    /// the clocks before the entry. Its number, where it has one, is from -10^12 to 10^12. It takes
-    /// no memory, and touches the entry's element and, at a begin, a repeat, an end or a cut, its
-    /// time children: an end leaves none of them deferred.
-    pub fn follow(&mut self, history: &DocumentHistory<'_>, clocks: &Clocks, entry: Entry)
+    /// the clocks before the entry, of fewer than `DIARY_ENTRIES` entries. The entry's number, if
+    /// it has one, is from -10^12 to 10^12. It takes no memory, and touches the entry's element
+    /// and, at a begin, a repeat, an end or a cut, its time children: an end leaves none of them
+    /// deferred.
+    pub(crate) fn follow(&mut self, history: &DocumentHistory<'_>, clocks: &Clocks, entry: Entry)
         requires follows { MayBeTaken entry history.now.tree.now clocks.now history.now.log.now }
         requires near { HasNear entry.step }
         ensures { (h : History)
@@ -104,6 +109,15 @@ impl Plays {
     {
         self.take_own(clocks, history.log, entry);
         self.take_children(history.tree, entry.step);
+    }
+
+    /// Lets the plays be those of the document to which nothing has happened yet. It takes no
+    /// memory, and a step for each element.
+    pub fn reset(&mut self)
+        ensures { (h k : History) → self.old ≡ all_played h → k.nodes ≡ h.nodes
+            → self.new ≡ all_played (up_to k []) }
+    {
+        reset_each(&mut self.rows);
     }
 
     /// What is kept of an element; None exactly where the document has no such element. It takes no
@@ -136,16 +150,6 @@ impl Plays {
         Some(&self.rows.get(place)?.1)
     }
 
-    // Puts a row in the place of the one that an element has; nothing where it has none.
-    fn put(&mut self, who: u32, played: PlayFacts)
-        ensures { IsPut who played self.old self.new }
-    {
-        let Some(place) = self.places.get(who) else {
-            return;
-        };
-        self.rows[place] = (who, played);
-    }
-
     // Takes in what an entry makes of its own element.
     fn take_own(&mut self, clocks: &Clocks, log: &Log, entry: Entry)
         requires moment { IsMoment entry.moment }
@@ -156,7 +160,7 @@ impl Plays {
         let Some(who) = subject(log, entry.step) else {
             return;
         };
-        let Some(row) = self.row(who) else {
+        let Some(place) = self.places.get(who) else {
             return;
         };
         let own = OwnEntry {
@@ -165,8 +169,7 @@ impl Plays {
             clocks,
             log,
         };
-        let after = own_row(&own, *row);
-        self.put(who, after);
+        own_row(&own, &mut self.rows[place].1);
     }
 
     // Takes in what a step makes of the time children of its element.
@@ -203,6 +206,15 @@ impl Plays {
             return;
         };
         turn_child(&mut self.rows[place].1, birth);
+    }
+}
+
+// Lets nothing have happened yet to each element.
+fn reset_each(rows: &mut [(u32, PlayFacts)])
+    ensures { rows.new ≡ map reset_row rows.old }
+{
+    for row in rows.iter_mut() {
+        row.1 = IDLE;
     }
 }
 

@@ -1,12 +1,12 @@
 //! The queues of a document's excls.
 
-ghost use Rattle.std.specs.Prelude.{◌≡◌, List, true, IfOk, IsSome, slice_get};
+ghost use Rattle.std.specs.Prelude.{◌≡◌, List, [], map, true, IfOk, IsSome, slice_get};
 ghost use Rattle.smil_model.specs.declared.diary.LogEntry.{LogEntry as AnyLogEntry};
 ghost use Rattle.smil_model.specs.document.Document.{has_kind, is_excl_kind, node_at, serial_of};
 ghost use Rattle.smil_model.specs.diary.Diary.{History};
 ghost use Rattle.smil_model.specs.happening.Queue.{class_facts, playing_child, queue_of};
-ghost use Rattle.smil_model.specs.diary.Diary.{with_entry};
-ghost use Rattle.smil_past.specs.Queues.{AreQueuesOf, IsPastOf, kept_queues, unplayed};
+ghost use Rattle.smil_model.specs.diary.Diary.{up_to, with_entry};
+ghost use Rattle.smil_past.specs.Queues.{AreQueuesOf, IsPastOf, emptied, kept_queues, unplayed};
 
 mod classes;
 mod lines;
@@ -94,6 +94,16 @@ impl Queues {
         play_on(&mut self.playing, tree, entry.step);
     }
 
+    /// Lets the queues be those of the document to which nothing has happened yet. It takes no
+    /// memory, and a step for each node and for each child in a queue.
+    pub fn reset(&mut self)
+        ensures { (h k : History) → self.old ≡ kept_queues h → k.nodes ≡ h.nodes
+            → self.new ≡ kept_queues (up_to k []) }
+    {
+        clear_each(&mut self.queues);
+        clear_each(&mut self.playing);
+    }
+
     /// The next child of the queue of an element; None where it is empty, or there is no such
     /// element. It takes no memory.
     pub fn first(&self, tree: &Tree, excl: u32) -> Option<u32>
@@ -122,5 +132,14 @@ impl Queues {
         ensures { result ≡ class_facts tree.now.nodes who }
     {
         class_at(&self.classes, tree, who)
+    }
+}
+
+// Takes all children out of each queue.
+fn clear_each(queues: &mut [Queue])
+    ensures { queues.new ≡ map emptied queues.old }
+{
+    for queue in queues.iter_mut() {
+        queue.clear();
     }
 }

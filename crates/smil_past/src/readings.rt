@@ -2,14 +2,18 @@
 
 ghost use Rattle.std.specs.Prelude.{◌≡◌, List, [], OnOk, OnErr, IfOk};
 ghost use Rattle.smil_model.specs.declared.diary.LogEntry.{LogEntry as AnyLogEntry};
-ghost use Rattle.smil_past.specs.Readings.{AreReadingsOf, IsLast};
+ghost use Rattle.smil_model.specs.diary.Diary.{History, with_entry};
+ghost use Rattle.smil_laws.specs.Near.{HasNear};
+ghost use Rattle.smil_instance_rows.specs.Notes.{GoesBackTheSame};
+ghost use Rattle.smil_past.specs.Readings.{AreReadingsOf, FollowsAll, IsLast, MayBeFollowed, MayGoBack};
 
 use super::plays::Plays;
 use super::queues::Queues;
 use smil_diary::Book;
 use smil_graph::Graph;
+use smil_instance_rows::RowNotes;
 use smil_instances::{DocumentHistory, Instances};
-use smil_model::{Duplicate, Entry};
+use smil_model::{DIARY_ENTRIES, Duplicate, Entry};
 use smil_stretch::Clocks;
 use smil_tree::Tree;
 use std::alloc::{AllocError, Global};
@@ -64,19 +68,60 @@ impl Readings {
     }
 
     /// Takes in the last entry of a history. Where memory runs out all is as before. It touches
-    /// what the entry concerns alone.
-    pub fn take_in(&mut self, history: &DocumentHistory<'_>, entry: Entry) -> Result<(), AllocError>
+    /// what the entry concerns alone. Where `notes` have a mark, going back to it still gives the
+    /// same instance times.
+    pub fn take_in(
+        &mut self,
+        history: &DocumentHistory<'_>,
+        entry: Entry,
+        notes: &mut RowNotes,
+    ) -> Result<(), AllocError>
         requires { IsLast self.old entry history.now.tree.now history.now.log.now
             history.now.book.now }
         ensures ok { OnOk result (AreReadingsOf self.new history.now.tree.now history.now.log.now
             history.now.book.now) }
         ensures err { OnErr result (self.new ≡ self.old) }
+        ensures back { GoesBackTheSame self.old.instances.rows notes.old self.new.instances.rows
+            notes.new }
     {
         let DocumentHistory { tree, log, book } = *history;
-        self.instances.note(tree, &self.clocks, log, book)?;
-        self.plays.follow(history, &self.clocks, entry);
-        self.queues.follow(tree, entry);
-        self.clocks.follow(entry);
+        prove!(book.len() <= DIARY_ENTRIES);
+        self.instances.note(tree, &self.clocks, log, book, notes)?;
+        self.follow(history, entry);
         Ok(())
+    }
+
+    /// Goes back to a history with fewer entries, where the notes have their mark, and takes that
+    /// away. It takes no memory: instance times go back by the notes; the rest begins anew, and
+    /// follows the entries of the history.
+    pub fn back(&mut self, history: &DocumentHistory<'_>, notes: &mut RowNotes)
+        requires { MayGoBack self.old notes.old history.now.tree.now history.now.log.now
+            history.now.book.now }
+        ensures { AreReadingsOf self.new history.now.tree.now history.now.log.now
+            history.now.book.now }
+    {
+        prove!(history.book.len() <= DIARY_ENTRIES);
+        self.instances.back(notes);
+        self.clocks.reset();
+        self.plays.reset();
+        self.queues.reset();
+        for entry in history.book.entries() {
+            self.follow(history, *entry);
+        }
+    }
+
+    // Takes in an entry, but for what it makes of the instance times.
+    fn follow(&mut self, history: &DocumentHistory<'_>, entry: Entry)
+        requires follows { (h : History) × MayBeFollowed self.old entry history.now.tree.now
+            history.now.log.now h }
+        requires near { HasNear entry.step }
+        ensures follows { (h : History)
+            → MayBeFollowed self.old entry history.now.tree.now history.now.log.now h
+            → FollowsAll self.new (with_entry h entry) }
+        ensures instances { self.new.instances ≡ self.old.instances }
+    {
+        self.plays.follow(history, &self.clocks, entry);
+        self.queues.follow(history.tree, entry);
+        self.clocks.follow(entry);
     }
 }

@@ -101,8 +101,8 @@ impl Syncs {
         }
     }
 
-    // The row of an element.
-    fn row(&self, who: u32) -> Option<&SyncbaseRow>
+    /// The row of an element. It takes no memory.
+    pub fn row(&self, who: u32) -> Option<&SyncbaseRow>
         ensures { (nodes : List AnyNode) (e : AnyNode) → self.now ≡ all_syncs nodes
             → node_at (elements nodes) who ≡ Some e
             → option_copied result ≡ Some (sync_row nodes e) }

@@ -8,3 +8,5 @@ pub mod Left
 pub mod Refreshed
 pub mod Turning
 pub mod Idle
+pub mod ParentPlaces
+pub mod Reset

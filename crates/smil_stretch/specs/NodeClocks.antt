@@ -89,6 +89,11 @@ idle_clock nodes n = record {
   clock = Runs (pos 0);
 }
 
+-- a clock that runs and lost nothing, of a node that isn't paused
+abbrev pub reset_clock : NodeClock → NodeClock
+reset_clock n =
+    record { serial = n.serial; parent = n.parent; paused = false; clock = Runs (pos 0) }
+
 -- a table from serials to places
 abbrev pub ArePlacesOf : (ℕ → Option ℕ) → List NodeClock → Type 0
 ArePlacesOf found clocks = AreFirstPlaces (λ (n : NodeClock). n.serial) found clocks

@@ -1,8 +1,8 @@
 //! The clocks of a document.
 
-ghost use Rattle.std.specs.Prelude.{◌≡◌, ◌≤ℤ◌, ◌||◌, if◌then◌else◌, true, Some, None, IfOk, IfSome, map};
+ghost use Rattle.std.specs.Prelude.{◌≡◌, [], ◌≤ℤ◌, ◌||◌, if◌then◌else◌, true, Some, None, IfOk, IfSome, map};
 ghost use Rattle.smil_model.specs.document.Valid.{IsNumberedTree};
-ghost use Rattle.smil_model.specs.diary.Diary.{History, is_paused as paused_in, with_entry, last_moment};
+ghost use Rattle.smil_model.specs.diary.Diary.{History, is_paused as paused_in, up_to, with_entry, last_moment};
 ghost use Rattle.smil_model.specs.diary.Lawful.{IsLawful, has_element};
 ghost use Rattle.smil_model.specs.diary.Clocks.{run as run_of, outer as outer_of, stands as stands_of, outer_stands as outer_stands_of, to_document as document_time, between as between_clocks};
 ghost use Rattle.smil_model.specs.declared.diary.Entry.{Entry as AnyEntry};
@@ -10,10 +10,13 @@ ghost use Rattle.smil_model.specs.declared.diary.Step.{Step as AnyStep};
 ghost use Rattle.smil_model.specs.declared.diary.Step.TheVariants as step;
 ghost use Rattle.smil_stretch.specs.Clocks.{AreClocksOf, IsHistoryOf, IsLawfulFor, MayEndPause, MayFollow, ends_pause};
 ghost use Rattle.smil_model.specs.Times.{IsCarried, IsMoment, IsNear};
-ghost use Rattle.smil_stretch.specs.NodeClocks.{AllFit, Fits, MayTurn, Turns, clock_at, idle_clock, parent_at};
+ghost use Rattle.smil_stretch.specs.NodeClocks.{AllFit, Fits, MayTurn, Turns, clock_at, idle_clock, parent_at, reset_clock};
+
+mod readings;
 
 use super::clock::{Clock, NodeClock, shown_by, stands_by};
 use super::refresh::refresh;
+pub use readings::ClockReadings;
 use smil_diary::Book;
 use smil_model::{Duplicate, Entry, SerialTable, Step, first_places};
 use smil_tree::Tree;
@@ -153,6 +156,15 @@ impl Clocks {
         }
     }
 
+    /// Lets the clocks be those of the document to which nothing has happened yet. It takes no
+    /// memory, and a step for each node.
+    pub fn reset(&mut self)
+        ensures { (h k : History) → AreClocksOf self.old h → k.nodes ≡ h.nodes
+            → AreClocksOf self.new (up_to k []) }
+    {
+        reset_each(&mut self.clocks);
+    }
+
     /// A value on the clock of the element's time parent, in document time, at a moment from 0 to
     /// 10^12. The value is from -10^13 to 10^13. It takes no memory.
     pub fn to_document(&self, who: u32, value: i64, moment: i64) -> i64
@@ -250,6 +262,16 @@ impl Clocks {
         let place = self.places.get(who).unwrap();
         self.clocks[place].paused = paused;
         refresh(&mut self.clocks, place, moment);
+    }
+}
+
+// Lets each clock run and have lost nothing, and no node be paused.
+fn reset_each(clocks: &mut [NodeClock])
+    ensures { clocks.new ≡ map reset_clock clocks.old }
+{
+    for node in clocks.iter_mut() {
+        node.paused = false;
+        node.clock = Clock::Runs { lost: 0 };
     }
 }
 

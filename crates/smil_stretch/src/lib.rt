@@ -7,4 +7,4 @@ pub mod laws;
 mod refresh;
 
 pub use clock::{Clock, NodeClock};
-pub use clocks::Clocks;
+pub use clocks::{ClockReadings, Clocks};

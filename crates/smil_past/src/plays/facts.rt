@@ -33,4 +33,12 @@ pub struct PlayFacts {
     pub passed: Option<i64>,
     /// The last length of the element's media that the diary tells.
     pub length: Time,
+    /// Whether the element is active and paused.
+    pub paused: bool,
+    /// The number of the iteration of the last play since birth, from 0; 0 where there is none.
+    pub iteration: u32,
+    /// How many intervals finished since birth.
+    pub finished: u32,
+    /// Whether the element began since birth.
+    pub began_since_birth: bool,
 }

@@ -8,7 +8,7 @@ ghost use Rattle.smil_model.specs.Times.{IsMoment, IsNear};
 ghost use Rattle.smil_laws.specs.Near.{HasNear};
 ghost use Rattle.smil_model.specs.reach.Reach.{subject_of};
 ghost use Rattle.smil_instances.specs.Contribution.{AreClocksAt};
-ghost use Rattle.smil_past.specs.Followed.{began_row, child_after, finished_interval, deferred_row, finished_row, own_after, told_by};
+ghost use Rattle.smil_past.specs.Followed.{began_row, child_after, finished_interval, deferred_row, finished_row, own_after, told_by, finished_after, next_iteration};
 
 use super::facts::{PastInterval, PlayFacts};
 use smil_model::{Entry, Happening, Log, LogEntry, Step, Time};
@@ -23,34 +23,33 @@ pub struct OwnEntry<'a> {
     pub log: &'a Log,
 }
 
-/// What an entry makes of the row of the element that it is on. It takes no memory.
-pub fn own_row(own: &OwnEntry<'_>, row: PlayFacts) -> PlayFacts
+/// Takes an entry into the row of the element that it is on. It takes no memory.
+pub fn own_row(own: &OwnEntry<'_>, row: &mut PlayFacts)
     requires moment { IsMoment own.now.entry.moment }
     requires near { HasNear own.now.entry.step }
     requires on { subject_of own.now.log.now own.now.entry.step ≡ Some own.now.who }
     ensures { (h : History) → AreClocksAt h own.now.clocks.now own.now.entry.moment
-        → h.log ≡ own.now.log.now → result ≡ own_after h own.now.entry own.now.who row }
+        → h.log ≡ own.now.log.now → row.new ≡ own_after h own.now.entry own.now.who row.old }
 {
     match own.entry.step {
         Step::Began { begin, .. } => began(own, begin, row),
-        Step::Repeated { start, .. } => PlayFacts { start, ..row },
+        Step::Repeated { start, .. } => {
+            row.start = start;
+            row.iteration = next_iteration(row);
+        }
         Step::Ended { end, .. } => finished(own, end, false, row),
         Step::Cut { .. } => {
             let finish = own.clocks.outer(own.who, own.entry.moment);
-            finished(own, finish, true, row)
+            finished(own, finish, true, row);
         }
-        Step::Paused { .. } => row,
-        Step::Resumed { .. } => row,
+        Step::Paused { .. } => row.paused = true,
+        Step::Resumed { .. } => row.paused = false,
         Step::Deferred { begin, .. } => put_off(own, begin, row),
-        Step::Passed { begin, .. } => PlayFacts {
-            shown_deferred: None,
-            passed: greater(row.passed, begin),
-            ..row
-        },
-        Step::Logged { place } => PlayFacts {
-            length: told(own.log, place, own.who, row.length),
-            ..row
-        },
+        Step::Passed { begin, .. } => {
+            row.shown_deferred = None;
+            row.passed = greater(row.passed, begin);
+        }
+        Step::Logged { place } => row.length = told(own.log, place, own.who, row.length),
     }
 }
 
@@ -63,15 +62,18 @@ pub fn turn_child(row: &mut PlayFacts, birth: bool)
         row.first_finished = None;
         row.last_finished = None;
         row.passed = None;
+        row.iteration = 0;
+        row.finished = 0;
+        row.began_since_birth = false;
     }
 }
 
 // What a begin makes of a row.
-fn began(own: &OwnEntry<'_>, begin: i64, row: PlayFacts) -> PlayFacts
+fn began(own: &OwnEntry<'_>, begin: i64, row: &mut PlayFacts)
     requires moment { IsMoment own.now.entry.moment }
     requires near { IsNear begin }
     ensures { (h : History) → AreClocksAt h own.now.clocks.now own.now.entry.moment
-        → result ≡ began_row h own.now.who own.now.entry.moment begin row }
+        → row.new ≡ began_row h own.now.who own.now.entry.moment begin row.old }
 {
     let OwnEntry {
         who,
@@ -80,14 +82,14 @@ fn began(own: &OwnEntry<'_>, begin: i64, row: PlayFacts) -> PlayFacts
         ..
     } = *own;
     let start = start_of(clocks, who, begin, entry.moment);
-    PlayFacts {
-        begun: Some(begin),
-        shown_begun: Some(clocks.to_document(who, begin, entry.moment)),
-        first: start,
-        start,
-        shown_deferred: None,
-        ..row
-    }
+    row.begun = Some(begin);
+    row.shown_begun = Some(clocks.to_document(who, begin, entry.moment));
+    row.first = start;
+    row.start = start;
+    row.shown_deferred = None;
+    row.paused = false;
+    row.iteration = 0;
+    row.began_since_birth = true;
 }
 
 // The play start of a begin, on the element's own clock.
@@ -101,11 +103,11 @@ fn start_of(clocks: &Clocks, who: u32, begin: i64, moment: i64) -> i64
 }
 
 // What a finish with a value makes of a row.
-fn finished(own: &OwnEntry<'_>, finish: i64, was_cut: bool, row: PlayFacts) -> PlayFacts
+fn finished(own: &OwnEntry<'_>, finish: i64, was_cut: bool, row: &mut PlayFacts)
     requires moment { IsMoment own.now.entry.moment }
     requires near { IsNear finish }
-    ensures { (h : History) → AreClocksAt h own.now.clocks.now own.now.entry.moment
-        → result ≡ finished_row h own.now.who own.now.entry.moment finish was_cut row }
+    ensures { (h : History) → AreClocksAt h own.now.clocks.now own.now.entry.moment → row.new
+        ≡ finished_row h own.now.who own.now.entry.moment finish was_cut row.old }
 {
     let OwnEntry {
         who,
@@ -114,23 +116,22 @@ fn finished(own: &OwnEntry<'_>, finish: i64, was_cut: bool, row: PlayFacts) -> P
         ..
     } = *own;
     let shown_finish = clocks.to_document(who, finish, entry.moment);
-    let interval = finished_interval(&row, finish, shown_finish, was_cut);
-    PlayFacts {
-        begun: None,
-        shown_begun: None,
-        first_finished: row.first_finished.or(interval),
-        last_finished: interval.or(row.last_finished),
-        shown_deferred: None,
-        ..row
-    }
+    let interval = finished_interval(row, finish, shown_finish, was_cut);
+    row.begun = None;
+    row.shown_begun = None;
+    row.first_finished = row.first_finished.or(interval);
+    row.last_finished = interval.or(row.last_finished);
+    row.finished = count_finished(&interval, row.finished);
+    row.shown_deferred = None;
+    row.paused = false;
 }
 
 // What a begin that is deferred makes of a row.
-fn put_off(own: &OwnEntry<'_>, begin: i64, row: PlayFacts) -> PlayFacts
+fn put_off(own: &OwnEntry<'_>, begin: i64, row: &mut PlayFacts)
     requires moment { IsMoment own.now.entry.moment }
     requires near { IsNear begin }
     ensures { (h : History) → AreClocksAt h own.now.clocks.now own.now.entry.moment
-        → result ≡ deferred_row h own.now.who own.now.entry.moment begin row }
+        → row.new ≡ deferred_row h own.now.who own.now.entry.moment begin row.old }
 {
     let OwnEntry {
         who,
@@ -138,10 +139,7 @@ fn put_off(own: &OwnEntry<'_>, begin: i64, row: PlayFacts) -> PlayFacts
         clocks,
         ..
     } = *own;
-    PlayFacts {
-        shown_deferred: Some(clocks.to_document(who, begin, entry.moment)),
-        ..row
-    }
+    row.shown_deferred = Some(clocks.to_document(who, begin, entry.moment));
 }
 
 // The interval of the play of a row, which finishes; None where there is no play.
@@ -163,6 +161,27 @@ fn finished_interval(
             was_cut,
         }),
         _ => None,
+    }
+}
+
+// How many intervals there are with this one, where there is one.
+fn count_finished(interval: &Option<PastInterval>, before: u32) -> u32
+    ensures { result ≡ finished_after interval.now before }
+{
+    match interval {
+        Some(_) => before.saturating_add(1),
+        None => before,
+    }
+}
+
+// The number of the iteration that a repeat starts.
+fn next_iteration(row: &PlayFacts) -> u32
+    ensures { result ≡ next_iteration row.now.began_since_birth row.now.iteration }
+{
+    if row.began_since_birth {
+        row.iteration.saturating_add(1)
+    } else {
+        row.iteration
     }
 }
 

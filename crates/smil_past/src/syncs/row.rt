@@ -32,6 +32,13 @@ impl Model for SyncbaseRow {
 }
 
 impl SyncbaseRow {
+    /// What the attributes tell. It takes no memory.
+    pub fn makeup(&self) -> &Makeup
+        ensures { result.now ≡ self.now.makeup }
+    {
+        &self.makeup
+    }
+
     /// What the items of one side wait for. It takes no memory.
     pub fn side(&self, side: Edge) -> &[Syncbase]
         ensures { result.now ≡ syncs_on side self.now }

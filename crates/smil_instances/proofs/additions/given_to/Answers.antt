@@ -1,7 +1,6 @@
-use Rattle.std.proofs.Common.{◌≡◌, sym, ◌∙◌, ap, ℕ, Option, Bool, false}
+use Rattle.std.proofs.Common.{sym, ◌∙◌, ap, ℕ, Option}
+use Rattle.smil_model.specs.declared.diary.Entry.{Entry}
 use Rattle.smil_model.specs.diary.Diary.{History}
-use Rattle.smil_model.specs.reach.Reach.{subject_of}
-use Rattle.smil_instances.specs.declared.source.Source.{Source}
 use Rattle.smil_instances.specs.Contribution.{may_give}
 use Rattle.smil_instances.specs.Intake.{history_of}
 use Rattle.smil_instances.specs.Sources.{source_at}
@@ -14,8 +13,9 @@ returns-then-not-may_give c = λ before y q.
     let h : History = history_of c.args.arrival.now.history.tree.now c.args.arrival.now.history.log.now before in
     let source = c.source-source.ensures ∙ c.requires.dependents.sources c.args.cell in
     sym (none_given h y c.args.cell
-    (ap (λ (on : Option ℕ). may_give on (source_at h.nodes c.args.cell)) (sym (c.requires.on before y q))
-    ∙ ap (may_give c.args.on) (sym source)
+    (ap (λ (on : Option ℕ). may_give on y.step (source_at h.nodes c.args.cell)) (sym (c.requires.on before y q))
+    ∙ ap (λ (x : Entry). may_give c.args.on x.step (source_at h.nodes c.args.cell)) (sym (c.last_entry.ensures.value before y q))
+    ∙ ap (may_give c.args.on c.last_entry.result.step) (sym source)
     ∙ sym c.may_give.ensures ∙ c.if-not-may_give.true))
 
 pub returns-in_err-who : goal.returns-in_err-who

@@ -1,4 +1,4 @@
-use Rattle.std.proofs.Common.{◌≡◌, sym, ◌∙◌, ap, subst, List}
+use Rattle.std.proofs.Common.{◌≡◌, refl, sym, ◌∙◌, ap, subst, List}
 use Rattle.std.specs.Prelude.{map}
 use Rattle.smil_model.specs.declared.diary.Entry.{Entry}
 use Rattle.smil_model.specs.reach.Reach.{key_of, subject_of}
@@ -8,7 +8,10 @@ use Rattle.smil_instances.specs.SettledTimes.{settled_rows}
 use Rattle.smil_instances.specs.Sources.{AreThose}
 use Rattle.smil_instance_rows.specs.Changes.{with_adds, Fits}
 use Rattle.smil_instances.specs.Intake.{adds_to, history_of, is_concerned_cell, shape_of, with_remainders, with_trims, AreToItems}
+use Rattle.smil_instance_rows.specs.Notes.{rows_back}
+use Rattle.smil_instances.specs.Noted.{AreNoted, trimmed}
 use Rattle.smil_instances.proofs.Extents.{settled_shape}
+use Rattle.smil_instances.proofs.Going.{added_go, trims_go}
 use Rattle.smil_instances.proofs.Hands.{at_hand, timely}
 use Rattle.smil_instances.proofs.Taken.{adds_fit, adds_to_items, taken_in, taken_in_added, those_have_items}
 use Rattle.smil_instances.proofs.Updates.{adds_shape}
@@ -26,8 +29,33 @@ adds_of-requires-clause-rows c =
     ap (map shape_of) (c.requires.rows hand.past.diary hand.entry hand.is_entry.same_diary)
     ∙ settled_shape (history_of c.args.arrival.now.history.tree.now c.args.arrival.now.history.log.now hand.past.diary)
 
-pub add_each-requires : goal.add_each-requires
-add_each-requires c =
+pub add_noted-requires-clause-rows : goal.add_noted-requires-clause-rows
+add_noted-requires-clause-rows c =
+    let hand = c.requires.hand in
+    ap (map shape_of) (c.requires.rows hand.past.diary hand.entry hand.is_entry.same_diary)
+    ∙ settled_shape (history_of c.args.arrival.now.history.tree.now c.args.arrival.now.history.log.now hand.past.diary)
+
+pub add_noted-requires-clause-cells : goal.add_noted-requires-clause-cells
+add_noted-requires-clause-cells c =
+    let step = c.last_entry-entry.result.step in
+    those_have_items c.args.arrival.now.history.tree.now.nodes (is_opening step) (subject_of c.args.arrival.now.history.log.now step) (key_of c.args.arrival.now.history.log.now step) c.concerned-cells.result.now c.concerned-cells.ensures.those
+
+pub add_noted-requires-clause-items : goal.add_noted-requires-clause-items
+add_noted-requires-clause-items c =
+    let hand = c.requires.hand in
+    let before = hand.past.diary in
+    let y = hand.entry in
+    let q = hand.is_entry.same_diary in
+    let nodes = c.args.arrival.now.history.tree.now.nodes in
+    let log = c.args.arrival.now.history.log.now in
+    let cells = c.concerned-cells.result.now in
+    subst (AreToItems nodes) (sym (c.as_slice.ensures.value ∙ c.in_ok-adds_of.ensures before y q))
+    (adds_to_items nodes log before y cells
+    (subst (λ (z : Entry). AreThose (is_concerned_cell nodes (is_opening z.step) (subject_of log z.step) (key_of log z.step)) cells) (c.last_entry-entry.ensures.value before y q) c.concerned-cells.ensures.those)
+    c.args.rows.now (c.requires.rows before y q))
+
+pub add_noted-requires-clause-fits : goal.add_noted-requires-clause-fits
+add_noted-requires-clause-fits c =
     let hand = c.requires.hand in
     let before = hand.past.diary in
     let y = hand.entry in
@@ -48,7 +76,7 @@ trim_each-requires-clause-cells c =
 pub trim_each-requires-clause-rows : goal.trim_each-requires-clause-rows
 trim_each-requires-clause-rows c =
     let hand = c.requires.hand in
-    ap (map shape_of) c.in_ok-add_each.ensures.ok
+    ap (map shape_of) c.in_ok-add_noted.ensures.ok
     ∙ adds_shape c.args.rows.now c.as_slice.result.now
     ∙ ap (map shape_of) (c.requires.rows hand.past.diary hand.entry hand.is_entry.same_diary)
     ∙ settled_shape (history_of c.args.arrival.now.history.tree.now c.args.arrival.now.history.log.now hand.past.diary)
@@ -70,7 +98,7 @@ trim_added-requires-clause-items c =
 pub trim_added-requires-clause-rows : goal.trim_added-requires-clause-rows
 trim_added-requires-clause-rows c =
     let hand = c.requires.hand in
-    ap (map shape_of) c.in_ok-add_each.ensures.ok
+    ap (map shape_of) c.in_ok-add_noted.ensures.ok
     ∙ adds_shape c.args.rows.now c.as_slice.result.now
     ∙ ap (map shape_of) (c.requires.rows hand.past.diary hand.entry hand.is_entry.same_diary)
     ∙ settled_shape (history_of c.args.arrival.now.history.tree.now c.args.arrival.now.history.log.now hand.past.diary)
@@ -90,7 +118,7 @@ returns-then-is_birth-clause-ok c =
     let those = subst (λ (z : Entry). AreThose (is_concerned_cell document.nodes (is_opening z.step) (subject_of log z.step) (key_of log z.step)) cells) (c.last_entry-entry.ensures.value before y q) c.concerned-cells.ensures.those in
     let added = with_adds rows (adds_to past y cells) in
     c.trim_each.ensures log
-    ∙ ap (λ rs. with_remainders (history_of document log book) rs cells) (c.in_ok-add_each.ensures.ok ∙ ap (with_adds rows) (c.as_slice.ensures.value ∙ c.in_ok-adds_of.ensures before y q))
+    ∙ ap (λ rs. with_remainders (history_of document log book) rs cells) (c.in_ok-add_noted.ensures.ok ∙ ap (with_adds rows) (c.as_slice.ensures.value ∙ c.in_ok-adds_of.ensures before y q))
     ∙ subst (λ (diary : List Entry). with_remainders (history_of document log diary) added cells ≡ settled_rows (history_of document log diary)) (sym q)
     (taken_in document.nodes log before y cells those rows (c.requires.rows before y q) c.entries_are_taken_in.ensures c.only_concerned_items_change.ensures
     (timely past y document c.args.arrival.now.clocks.now log book (at_hand document c.args.arrival.now.clocks.now log book before y hand q)))
@@ -113,8 +141,54 @@ returns-else-is_birth-clause-ok c =
     let added = with_adds rows adds in
     let now = history_of document log book in
     c.trim_added.ensures log
-    ∙ ap (λ (more : List Add). with_trims now c.add_each.new.rows more) (c.as_slice-else-is_birth.ensures.value ∙ c.in_ok-adds_of.ensures before y q)
-    ∙ ap (λ rs. with_trims now rs adds) (c.in_ok-add_each.ensures.ok ∙ ap (with_adds rows) (c.as_slice.ensures.value ∙ c.in_ok-adds_of.ensures before y q))
+    ∙ ap (λ (more : List Add). with_trims now c.add_noted.new.rows more) (c.as_slice-else-is_birth.ensures.value ∙ c.in_ok-adds_of.ensures before y q)
+    ∙ ap (λ rs. with_trims now rs adds) (c.in_ok-add_noted.ensures.ok ∙ ap (with_adds rows) (c.as_slice.ensures.value ∙ c.in_ok-adds_of.ensures before y q))
     ∙ subst (λ (diary : List Entry). with_trims (history_of document log diary) added adds ≡ settled_rows (history_of document log diary)) (sym q)
     (taken_in_added document.nodes log before y cells those rows (c.requires.rows before y q) closed c.entries_are_taken_in.ensures c.only_concerned_items_change.ensures
     (timely past y document c.args.arrival.now.clocks.now log book (at_hand document c.args.arrival.now.clocks.now log book before y hand q)))
+
+pub returns-in_err-adds_of-clause-back : goal.returns-in_err-adds_of-clause-back
+returns-in_err-adds_of-clause-back c = record { mark = refl; back = λ place is. refl }
+
+pub returns-then-is_birth-clause-back : goal.returns-then-is_birth-clause-back
+returns-then-is_birth-clause-back c =
+    let hand = c.requires.hand in
+    let before = hand.past.diary in
+    let y = hand.entry in
+    let q = hand.is_entry.same_diary in
+    let log = c.args.arrival.now.history.log.now in
+    let now = history_of c.args.arrival.now.history.tree.now log c.args.arrival.now.history.book.now in
+    let rows = c.add_noted.new.rows in
+    let notes = c.add_noted.new.notes in
+    let cells = c.concerned-cells.result.now in
+    let opened = ap (λ (z : Entry). is_opening z.step) (sym (c.last_entry-entry.ensures.value before y q)) ∙ sym c.is_birth.ensures ∙ c.if-is_birth.true in
+    let noted = c.add_noted.ensures.back in
+    record {
+      mark = noted.mark;
+      back = λ place is.
+          ap (λ rs. rows_back rs notes) (c.trim_each.ensures log)
+          ∙ trims_go now rows notes cells (subst (λ t. AreNoted now rows notes.notes (trimmed t cells c.as_slice.result.now)) opened (c.in_ok-add_noted.ensures.noted before y place q is))
+          ∙ noted.back place is;
+    }
+
+pub returns-else-is_birth-clause-back : goal.returns-else-is_birth-clause-back
+returns-else-is_birth-clause-back c =
+    let hand = c.requires.hand in
+    let before = hand.past.diary in
+    let y = hand.entry in
+    let q = hand.is_entry.same_diary in
+    let log = c.args.arrival.now.history.log.now in
+    let now = history_of c.args.arrival.now.history.tree.now log c.args.arrival.now.history.book.now in
+    let rows = c.add_noted.new.rows in
+    let notes = c.add_noted.new.notes in
+    let cells = c.concerned-cells.result.now in
+    let adds = c.as_slice.result.now in
+    let closed = ap (λ (z : Entry). is_opening z.step) (sym (c.last_entry-entry.ensures.value before y q)) ∙ sym c.is_birth.ensures ∙ c.if-is_birth.false in
+    let noted = c.add_noted.ensures.back in
+    record {
+      mark = noted.mark;
+      back = λ place is.
+          ap (λ rs. rows_back rs notes) (c.trim_added.ensures log ∙ ap (with_trims now rows) (c.as_slice-else-is_birth.ensures.value ∙ sym c.as_slice.ensures.value))
+          ∙ added_go now rows notes adds (subst (λ t. AreNoted now rows notes.notes (trimmed t cells adds)) closed (c.in_ok-add_noted.ensures.noted before y place q is))
+          ∙ noted.back place is;
+    }

@@ -8,7 +8,7 @@ use Rattle.smil_past.specs.declared.kept.KeptReadings.{KeptReadings}
 use Rattle.smil_past.specs.Chronicle.{Lags, TellsNothing}
 use Rattle.smil_past.specs.Kept.{IsKept}
 use Rattle.smil_past.proofs.KeptFronts.{kept_at, lags_of}
-use Rattle.smil_past.proofs.Seconds.{lags_new}
+use Rattle.smil_past.proofs.Catching.{lags_new}
 use Rattle.smil_past.proofs.kept.nearest.Goals as goal
 
 pub returns-in_default : goal.returns-in_default

@@ -4,7 +4,7 @@ use Rattle.std.proofs.lemmas.List.{length_push}
 use Rattle.smil_model.specs.declared.diary.Entry.{Entry}
 use Rattle.smil_stretch.proofs.Idle.{no_entry}
 use Rattle.smil_past.proofs.Fronts.{all_reached, entry_at, rest}
-use Rattle.smil_past.proofs.Seconds.{caught_up, lags_next, next_follows}
+use Rattle.smil_past.proofs.Catching.{caught_up, lags_next, next_follows}
 use Rattle.smil_past.proofs.chronicle.Chronicle.catch_up.Goals as goal
 
 pub push-requires-clause-follows : goal.push-requires-clause-follows

@@ -1,4 +1,4 @@
-use Rattle.smil_past.proofs.Seconds.{backs_unmarked}
+use Rattle.smil_past.proofs.Marks.{backs_none}
 use Rattle.smil_past.proofs.past.Past.forget.Goals as goal
 
 pub invariant_of-self : goal.invariant_of-self
@@ -8,5 +8,5 @@ invariant_of-self c =
     record {
       tells = sound.tells;
       kept_are = sound.kept_are;
-      backs_up = backs_unmarked was.document.value was.log was.chronicle.book was.second sound.backs_up.lags;
+      backs_up = backs_none was.document.value was.log was.chronicle.book was.chronicle.readings c.forget.new.self;
     }

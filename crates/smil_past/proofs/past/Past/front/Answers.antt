@@ -63,5 +63,5 @@ invariant_of-result c =
     let chronicle = c.catch_up_keeping.new.chronicle in
     let kept = c.catch_up_keeping.new.kept.items in
     let same : c.in_ok-clone.field-0.value ≡ c.self.inside.document.value = search rules in
-    subst (λ (d : Document). KeepsPast d c.cut_back.new.self chronicle None None kept) (c.tree.ensures ∙ c.as_ref-document.ensures ∙ sym same)
-    (keeps_brought c.tree.result.now c.cut_back.new.self (take c.args.diary c.entries.result.now) chronicle kept c.in_ok-catch_up_keeping.ensures)
+    subst (λ (d : Document). KeepsPast d c.cut_back.new.self chronicle c.in_ok-notes.notes None kept) (c.tree.ensures ∙ c.as_ref-document.ensures ∙ sym same)
+    (keeps_brought c.tree.result.now c.cut_back.new.self (take c.args.diary c.entries.result.now) chronicle c.in_ok-notes.notes kept c.in_ok-catch_up_keeping.ensures)

@@ -7,7 +7,8 @@ use Rattle.smil_past.specs.Past.{unmarked}
 use Rattle.smil_past.specs.Chronicle.{TellsNothing}
 use Rattle.smil_past.specs.Kept.{AreKept, KeepsPast}
 use Rattle.smil_past.proofs.KeptFronts.{kept_none}
-use Rattle.smil_past.proofs.Seconds.{backs_none, lags_new}
+use Rattle.smil_past.proofs.Catching.{lags_new}
+use Rattle.smil_past.proofs.Marks.{backs_none}
 use Rattle.smil_past.proofs.past.Past.over.Goals as goal
 
 pub of-requires-clause-dependents : goal.of-requires-clause-dependents
@@ -22,10 +23,10 @@ invariant_of-result c =
     let chronicle = c.in_ok-chronicle.chronicle in
     let nothing = IfOk-at_ok (TellsNothing tree log) c.in_ok-chronicle.was (c.new.ensures log) in
     let same : c.in_ok-new.field-0.value ≡ tree = c.in_ok-new.ensures.ok ∙ c.new-2.ensures in
-    subst (λ (d : Document). KeepsPast d log chronicle None None c.new-4.result.items) (sym same)
+    subst (λ (d : Document). KeepsPast d log chronicle c.in_ok-notes.notes None c.new-4.result.items) (sym same)
     (record {
       tells = (lags_new tree log [] chronicle c.requires.possible nothing).tells;
-      backs_up = backs_none tree log chronicle.book;
+      backs_up = backs_none tree log chronicle.book chronicle.readings c.in_ok-notes.notes;
       kept_are = subst (λ (ks : List KeptReadings). AreKept tree log chronicle.book ks) (sym c.new-4.ensures.items) (kept_none tree log chronicle.book);
     })
 

@@ -1,0 +1,8 @@
+use Rattle.std.proofs.Common.{ap, ◌<◌, length, arith}
+use Rattle.smil_instance_rows.proofs.Merge.{merged_replaced}
+use Rattle.smil_instance_rows.proofs.side.Side.cut_later_at.Goals as goal
+
+pub invariant_of-self : goal.invariant_of-self
+invariant_of-self g c =
+    let inside : c.args.item < length c.self.inside.items.items = omega (arith, c.requires, ap length c.self.view_is) in
+    merged_replaced g.T.Instant.at_most g.T.Instant.order g.T.Instant.choose c.self.inside.items.items c.args.item c.index_mut.result.now c.cut_later.new.kept c.self.inside.sorted c.cut_later.new.sorted inside c.index_mut.ensures.value c.self.invariant c.cut_later.ensures.sorted

@@ -1,0 +1,34 @@
+-- Items whose rows are noted, so that all can go back to a mark.
+use Rattle.std.specs.Prelude.{◌≡◌, ◌⊎◌, List, map, Bool, true, if◌then◌else◌}
+use Rattle.std.specs.List.{AllByRecursion}
+use Rattle.smil_model.specs.diary.Diary.{History}
+use Rattle.smil_instance_rows.specs.declared.cell.Add.{Add}
+use Rattle.smil_instance_rows.specs.declared.cell.Cell.{Cell}
+use Rattle.smil_instance_rows.specs.declared.item_times.InstanceTime.{InstanceTime}
+use Rattle.smil_instance_rows.specs.declared.notes.RowNote.{RowNote}
+use Rattle.smil_instance_rows.specs.Rows.{ElementTimes, from_place}
+use Rattle.smil_instance_rows.specs.Places.{last_alone}
+use Rattle.smil_instance_rows.specs.Changes.{cell_of}
+use Rattle.smil_instance_rows.specs.Notes.{is_noted}
+use Rattle.smil_instances.specs.declared.remainder.Remainder.{Remainder}
+use Rattle.smil_instances.specs.declared.remainder.Remainder.TheVariants.{Last, From, All}
+use Rattle.smil_instances.specs.Intake.{remaining_at}
+
+-- the instance times that are kept
+abbrev pub kept_by : Remainder → List InstanceTime → List InstanceTime
+kept_by Last kept = last_alone kept
+kept_by (From place) kept = from_place place kept
+kept_by All kept = kept
+
+-- the row of the item is noted, or all is still kept for it
+abbrev pub IsNoted : History → List ElementTimes → List RowNote → Cell → Type 0
+IsNoted h rows notes cell =
+    (is_noted notes cell.row ≡ true) ⊎ (remaining_at h cell (cell_of rows cell) ≡ cell_of rows cell)
+
+abbrev pub AreNoted : History → List ElementTimes → List RowNote → List Cell → Type 0
+AreNoted h rows notes cells = AllByRecursion (IsNoted h rows notes) cells
+
+-- the cells that are trimmed after an entry: at a birth all that it concerns, else those to which
+-- something was added
+abbrev pub trimmed : Bool → List Cell → List Add → List Cell
+trimmed is_birth cells adds = if is_birth then cells else map (λ (a : Add). a.cell) adds
