@@ -1,17 +1,18 @@
 -- The elements above an element, and whether it is frozen by whether the nearest of them is.
 use Rattle.std.proofs.Common.{◌≡◌, refl, sym, ◌∙◌, ap, subst, ℕ, suc, ◌≤◌, ◌<◌, List, [], ◌∷◌, length, Bool, true, false, Option, Some, None, arith, drop, filter}
-use Rattle.std.specs.Prelude.{cond, pos, find, reverse, not, ◌&&◌, ◌||◌, option_map, is_some}
+use Rattle.std.specs.Prelude.{cond, pos, find, reverse, not, ◌&&◌, ◌||◌, option_map, is_some, IfSome}
 use Rattle.smil_model.specs.declared.document.Node.{Node}
 use Rattle.smil_model.specs.document.Document.{Document, elements, is_element, lineage, node_at, serial_of, time_parent}
 use Rattle.smil_model.specs.document.Valid.{IsNumberedTree}
 use Rattle.smil_model.specs.diary.Diary.{History, is_active, is_deferred, lives_under}
+use Rattle.smil_model.specs.diary.Lawful.{has_element}
 use Rattle.smil_model.specs.shown.Views.{finished_values, is_displaced, is_frozen_in, is_frozen_under, is_frozen_by, keeps, was_cut, shows_under, time_ancestors, view_facts}
 use Rattle.smil_laws.specs.Edited.{IsOrdered}
 use Rattle.smil_laws.proofs.Lineages.{upwards-rest, upwards-head}
 use Rattle.smil_laws.proofs.Aside.{find_true}
 use Rattle.smil_laws.proofs.Numbered.{ordered}
 use Rattle.smil_tree.proofs.Families.{chain_of}
-use Rattle.smil_instances.proofs.Targets.{element_in}
+use Rattle.smil_instances.proofs.Targets.{element_in, element_of}
 use Rattle.smil_graph.proofs.Answered.{element_at, only_element}
 use Rattle.smil_past.proofs.Above.{parent_node}
 use Rattle.smil_instances.proofs.Sensitive.{serial_is}
@@ -131,6 +132,13 @@ module _ (h : History) (next : ℕ) (tree : IsNumberedTree (record { nodes = h.n
       let shows = lives_under (time_parent h.nodes s) h.diary || above in
       ap (λ b. (not b && not (is_deferred h e.serial)) && is_frozen_by (view_facts h (pos 0) None shows above e)) (sym on ∙ told ∙ ap (is_active h.diary) (sym (serial_is h.nodes s e at)))
       ∙ sym (frozen_is s e at above refl)
+
+  -- under one that is alive nothing is frozen
+  pub lives_unfrozen : (p : Option Node) → IfSome (serial_of p) (λ s. has_element h.nodes s ≡ true) → true ≡ lives_under p h.diary → false ≡ frozen_at h (serial_of p)
+  lives_unfrozen None known lives = refl
+  lives_unfrozen (Some p) known lives =
+      let e = element_of h.nodes p.serial known in
+      active_unfrozen p.serial e.0 true e.1 lives refl
 
   pub resting_frozen : (s : ℕ) (e : Node) (t above r : Bool) → node_at (elements h.nodes) s ≡ Some e → t ≡ is_active h.diary s → t ≡ false → above ≡ frozen_at h (serial_of (time_parent h.nodes s)) → r ≡ (not (is_deferred h s) && is_frozen_by (view_facts h (pos 0) None (lives_under (time_parent h.nodes s) h.diary || above) above e)) → r ≡ frozen_at h (Some s)
   resting_frozen s e t above r at told off above_is is =

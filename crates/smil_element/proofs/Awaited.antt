@@ -1,12 +1,13 @@
 -- Instance times with those put in that are expected.
-use Rattle.std.proofs.Common.{◌≡◌, refl, sym, ◌∙◌, ap, ℕ, ◌+◌, ℤ, List, [], ◌∷◌, ◌++◌, Bool, true, false, take, subst}
-use Rattle.std.specs.Prelude.{Option, None, Some, ◌||◌, if◌then◌else◌, ◌+ℤ◌, int_le, map, filter_map, flat_map, option_map, option_to_list, slice_get}
+use Rattle.std.proofs.Common.{◌≡◌, refl, sym, ◌∙◌, ap, ℕ, ◌+◌, ℤ, List, [], ◌∷◌, ◌++◌, length, Bool, true, false, take, subst, arith}
+use Rattle.std.specs.Prelude.{Option, None, Some, ◌==◌, ◌||◌, if◌then◌else◌, ◌+ℤ◌, int_le, map, filter_map, flat_map, option_map, option_to_list, slice_get}
 use Rattle.std.proofs.lemmas.List.Concat.{flat_map-append}
 use Rattle.std.proofs.lemmas.List.Elements.{filter_map-append}
 use Rattle.smil_model.specs.declared.times.Time.{Time}
 use Rattle.smil_model.specs.declared.times.Time.TheVariants.{At, Indefinite, Unresolved}
 use Rattle.smil_model.specs.declared.interval.Interval.{Interval}
 use Rattle.smil_model.specs.declared.document.Node.{Node}
+use Rattle.smil_model.specs.declared.document.Edge.{Edge}
 use Rattle.smil_model.specs.declared.document.Edge.TheVariants.{Begin, End}
 use Rattle.smil_model.specs.Times.{numbers, time_le, within_horizon}
 use Rattle.smil_model.specs.document.Defaults.{begin_list, end_list}
@@ -20,7 +21,7 @@ use Rattle.smil_model.proofs.Rising.{poured-append, poured-swap, rises_poured, r
 use Rattle.smil_instances.specs.SettledTimes.{row_of}
 use Rattle.smil_instances.proofs.Begins.{are_merged}
 use Rattle.smil_instances.specs.declared.syncbase.Syncbase.{Syncbase}
-use Rattle.smil_past.specs.Syncs.{expected_by, is_empty, syncs_of}
+use Rattle.smil_past.specs.Syncs.{expected_by, is_empty, sync_row, syncs_of, syncs_on}
 use Rattle.smil_past.proofs.Law.{syncs_tell}
 use Rattle.smil_element.specs.Pouring.{with_times}
 
@@ -142,6 +143,14 @@ module _ {A : Type 0} (le : A → A → Bool) (order : IsOrder le) (choose : Tim
       ∙ (λ i. with_times le choose ((given_is ∙ sym (flat_one f s)) i) (old_is i))
       ∙ sym (with_more (flat_map f (take k syncs)) (flat_map f (s ∷ [])) into)
       ∙ ap (λ ts. with_times le choose ts into) (sym (flat_map-append f (take k syncs) (s ∷ [])) ∙ ap (flat_map f) (sym (take-more_at syncs k s at)))
+
+pub empty_told : (syncs : List Syncbase) → (length syncs == 0) ≡ is_empty syncs
+empty_told [] = refl
+empty_told (s ∷ ss) = grind arith
+
+pub side_told : (nodes : List Node) (e : Node) (side : Edge) → syncs_on side (sync_row nodes e) ≡ syncs_of nodes side e
+side_told nodes e Begin = refl
+side_told nodes e End = refl
 
 pub none_there : (syncs : List Syncbase) → is_empty syncs ≡ true → syncs ≡ []
 none_there [] is = refl

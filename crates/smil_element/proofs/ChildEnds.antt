@@ -83,6 +83,16 @@ module _ (h : History) (intervals : ℕ → Option Interval) (e : Node) where
   media_told Ref container known = refl
   media_told _ container known = absurd (cc)
 
+-- a container's implicit duration is what its time children tell
+pub container_told : (h : History) (intervals : ℕ → Option Interval) (e : Node) (kind : Kind) → kind ≡ e.kind → is_container_kind kind ≡ true → container_implicit h intervals e ≡ implicit_of h intervals e e.kind
+container_told h intervals e kind same container = by kind container ∙ ap (implicit_of h intervals e) same
+  where
+    by : (k : Kind) → is_container_kind k ≡ true → container_implicit h intervals e ≡ implicit_of h intervals e k
+    by Par q = refl
+    by Seq q = refl
+    by Excl q = refl
+    by _ q = absurd (cc)
+
 -- ---- the last time child of a seq decides
 
 pub last_decides : {A : Type 0} (f : A → ChildEnd) (endsync : Endsync) (start : ℤ) (xs : List A) → container_duration Seq endsync start (map f (last_alone xs)) ≡ container_duration Seq endsync start (map f xs)

@@ -15,3 +15,4 @@ pub mod Awaited
 pub mod ChildEnds
 pub mod Known
 pub mod Latest
+pub mod TimeParents

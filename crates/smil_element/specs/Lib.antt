@@ -5,3 +5,4 @@ pub mod Shown
 pub mod Displaced
 pub mod Pouring
 pub mod Endings
+pub mod Subject

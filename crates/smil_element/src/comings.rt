@@ -4,21 +4,22 @@ ghost use Rattle.std.specs.Prelude.{◌≡◌, ◌+ℤ◌, ◌-ℤ◌, [], ◌�
 ghost use Rattle.smil_model.specs.declared.times.Time.TheVariants.{At};
 ghost use Rattle.smil_model.specs.Times.{IsNear, later_time, time_le};
 ghost use Rattle.smil_model.specs.diary.Diary.{iteration};
-ghost use Rattle.smil_model.specs.diary.Clocks.{iteration_start, play_start, run, stands};
+ghost use Rattle.smil_model.specs.diary.Clocks.{iteration_start, play_start, run, stands, to_document as document_time};
 ghost use Rattle.smil_model.specs.declared.document.Node.{Node as AnyNode};
 ghost use Rattle.smil_model.specs.document.Document.{elements, node_at};
 ghost use Rattle.smil_model.specs.diary.Lawful.{has_element};
 ghost use Rattle.smil_laws.specs.Near.{IsIntervalNear};
-ghost use Rattle.smil_past.specs.Past.{IsPresent, history_of};
+ghost use Rattle.smil_past.specs.Past.{history_of};
 ghost use Rattle.smil_element.specs.Element.{and_coming, both, goes_on, moved_by};
 ghost use Rattle.smil_model.specs.happening.Keys.{coming_begin, coming_by, coming_end, coming_repeat, coming_repeat_at};
 ghost use Rattle.smil_model.specs.interval.Durations.{bounds_of};
 ghost use Rattle.smil_element.specs.Parts.{coming_meant};
+ghost use Rattle.smil_element.specs.Subject.{IsFound};
 
 use super::evaluation::Evaluation;
-use super::facts::{attrs_of, parent_of, played_of};
+use super::facts::attrs_of;
 use super::happening::{Change, DueChange};
-use super::present::Present;
+use super::subject::Subject;
 use smil_duration::Bounds;
 use smil_model::{BEGIN_CLASS, EMPTY_END_CLASS, END_CLASS, Interval, Key, Play, Time, later};
 use smil_past::{Makeup, Past};
@@ -33,64 +34,64 @@ pub struct DueChanges {
 /// What comes of an element by its interval and its simple duration, at a moment: its begin, or its
 /// end and its repeat. `place` is its place among the elements in document order, from 0. The
 /// numbers of the interval are from -10^12 to 10^12. It takes no memory.
-pub fn comings_of(present: &Present<'_>, place: u32, made: &Evaluation) -> DueChanges
-    requires element { has_element present.now.past.now.document.nodes present.now.who ≡ true }
-    requires moment { IsPresent present.now.past.now present.now.moment }
+pub fn comings_of(subject: &Subject<'_>, place: u32, made: &Evaluation) -> DueChanges
+    requires found { IsFound subject.now }
     requires near { IfSome made.now.interval IsIntervalNear }
     ensures { (e : AnyNode)
-        → node_at (elements present.now.past.now.document.nodes) present.now.who ≡ Some e
-        → both result.moved result.repeat
-        ≡ coming_by (history_of present.now.past.now) made.now.interval made.now.simple
-        present.now.moment place e }
+        → node_at (elements subject.now.present.past.now.document.nodes) subject.now.present.who
+        ≡ Some e → both result.moved result.repeat
+        ≡ coming_by (history_of subject.now.present.past.now) made.now.interval made.now.simple
+        subject.now.present.moment place e }
 {
-    let repeat = if present.past.active(present.who) {
-        repeat_of(present, place, made.simple)
+    subject.present.past.possible();
+    let repeat = if subject.played.begun.is_some() {
+        repeat_of(subject, place, made.simple)
     } else {
         None
     };
     DueChanges {
-        moved: moved_of(present, place, made.interval),
+        moved: moved_of(subject, place, made.interval),
         repeat,
     }
 }
 
 // The end of an active element, and the begin of another, while the time parent's clock runs.
-fn moved_of(present: &Present<'_>, place: u32, interval: Option<Interval>) -> Option<DueChange>
-    requires moment { IsPresent present.now.past.now present.now.moment }
+fn moved_of(subject: &Subject<'_>, place: u32, interval: Option<Interval>) -> Option<DueChange>
+    requires found { IsFound subject.now }
     requires near { IfSome interval IsIntervalNear }
     ensures { (e : AnyNode)
-        → node_at (elements present.now.past.now.document.nodes) present.now.who ≡ Some e
-        → and_coming result []
-        ≡ moved_by (history_of present.now.past.now) interval present.now.moment place e }
+        → node_at (elements subject.now.present.past.now.document.nodes) subject.now.present.who
+        ≡ Some e → and_coming result [] ≡ moved_by (history_of subject.now.present.past.now)
+        interval subject.now.present.moment place e }
 {
+    subject.present.past.possible();
     let interval = interval?;
-    if present.past.clocks().outer_stands(present.who) {
+    if subject.clocks.outer_stands {
         return None;
     }
-    if present.past.active(present.who) {
-        end_of(present, place, interval)
+    if subject.played.begun.is_some() {
+        end_of(subject, place, interval)
     } else {
-        Some(begin_of(present, place, interval))
+        Some(begin_of(subject, place, interval))
     }
 }
 
 // The begin of an interval.
-fn begin_of(present: &Present<'_>, place: u32, interval: Interval) -> DueChange
-    requires moment { IsPresent present.now.past.now present.now.moment }
+fn begin_of(subject: &Subject<'_>, place: u32, interval: Interval) -> DueChange
+    requires found { IsFound subject.now }
     requires near { IsIntervalNear interval }
     ensures { (e : AnyNode)
-        → node_at (elements present.now.past.now.document.nodes) present.now.who ≡ Some e
-        → coming_meant result ∷ []
-        ≡ coming_begin (history_of present.now.past.now) present.now.moment place e
-        (Some interval) }
+        → node_at (elements subject.now.present.past.now.document.nodes) subject.now.present.who
+        ≡ Some e → coming_meant result ∷ []
+        ≡ coming_begin (history_of subject.now.present.past.now) subject.now.present.moment place
+        e (Some interval) }
 {
-    let clocks = present.past.clocks();
     DueChange {
         key: Key {
-            value: clocks.to_document(present.who, interval.begin, present.moment),
+            value: to_document(subject, interval.begin),
             class: BEGIN_CLASS,
             position: place,
-            serial: present.who,
+            serial: subject.present.who,
             repeat: false,
         },
         change: Change::Begins {
@@ -100,59 +101,69 @@ fn begin_of(present: &Present<'_>, place: u32, interval: Interval) -> DueChange
 }
 
 // The end of an interval that is a number, in a class of its own where the length is 0.
-fn end_of(present: &Present<'_>, place: u32, interval: Interval) -> Option<DueChange>
-    requires moment { IsPresent present.now.past.now present.now.moment }
+fn end_of(subject: &Subject<'_>, place: u32, interval: Interval) -> Option<DueChange>
+    requires found { IsFound subject.now }
     requires near { IsIntervalNear interval }
     ensures { (e : AnyNode)
-        → node_at (elements present.now.past.now.document.nodes) present.now.who ≡ Some e
-        → and_coming result []
-        ≡ coming_end (history_of present.now.past.now) present.now.moment place e
+        → node_at (elements subject.now.present.past.now.document.nodes) subject.now.present.who
+        ≡ Some e → and_coming result []
+        ≡ coming_end (history_of subject.now.present.past.now) subject.now.present.moment place e
         (Some interval) }
 {
     let Time::At(end) = interval.end else {
         return None;
     };
-    let clocks = present.past.clocks();
     Some(DueChange {
         key: Key {
-            value: clocks.to_document(present.who, end, present.moment),
+            value: to_document(subject, end),
             class: if interval.begin < end {
                 END_CLASS
             } else {
                 EMPTY_END_CLASS
             },
             position: place,
-            serial: present.who,
+            serial: subject.present.who,
             repeat: false,
         },
         change: Change::Ends { end },
     })
 }
 
-// The repeat of an active element, while its own clock runs.
-fn repeat_of(present: &Present<'_>, place: u32, simple: Time) -> Option<DueChange>
-    requires element { has_element present.now.past.now.document.nodes present.now.who ≡ true }
-    requires moment { IsPresent present.now.past.now present.now.moment }
-    ensures { (e : AnyNode)
-        → node_at (elements present.now.past.now.document.nodes) present.now.who ≡ Some e
-        → and_coming result []
-        ≡ coming_repeat (history_of present.now.past.now) simple present.now.moment place e }
+// A value on the clock of an element's time parent, in document time.
+fn to_document(subject: &Subject<'_>, value: i64) -> i64
+    requires found { IsFound subject.now }
+    requires near { IsNear value }
+    ensures { result ≡ document_time (history_of subject.now.present.past.now)
+        subject.now.present.who value subject.now.present.moment }
 {
-    if may_repeat(present.past, present.who) {
-        repeat_at(present, place, simple)
+    subject.present.moment + (value - subject.clocks.outer)
+}
+
+// The repeat of an active element, while its own clock runs.
+fn repeat_of(subject: &Subject<'_>, place: u32, simple: Time) -> Option<DueChange>
+    requires { IsFound subject.now }
+    ensures { (e : AnyNode)
+        → node_at (elements subject.now.present.past.now.document.nodes) subject.now.present.who
+        ≡ Some e → and_coming result []
+        ≡ coming_repeat (history_of subject.now.present.past.now) simple
+        subject.now.present.moment place e }
+{
+    if may_repeat(subject) {
+        repeat_at(subject, place, simple)
     } else {
         None
     }
 }
 
 // Whether an element has what repeats it, and its own clock runs.
-fn may_repeat(past: &Past, who: u32) -> bool
-    requires { has_element past.now.document.nodes who ≡ true }
-    ensures { (e : AnyNode) → node_at (elements past.now.document.nodes) who ≡ Some e → result
-        ≡ (is_some e.attrs.repeat_count || is_some e.attrs.repeat_dur)
-        && not (stands (history_of past.now) who) }
+fn may_repeat(subject: &Subject<'_>) -> bool
+    requires { IsFound subject.now }
+    ensures { (e : AnyNode)
+        → node_at (elements subject.now.present.past.now.document.nodes) subject.now.present.who
+        ≡ Some e → result ≡ (is_some e.attrs.repeat_count || is_some e.attrs.repeat_dur)
+        && not (stands (history_of subject.now.present.past.now) subject.now.present.who) }
 {
-    repeats(past.makeup(who)) && !past.clocks().stands(who)
+    repeats(subject.row.makeup()) && !subject.clocks.own_stands
 }
 
 // Whether attributes have what repeats an element.
@@ -164,28 +175,30 @@ fn repeats(makeup: &Makeup) -> bool
 
 // The repeat of an element that may repeat, where its iteration ends at a number and another
 // follows.
-fn repeat_at(present: &Present<'_>, place: u32, simple: Time) -> Option<DueChange>
-    requires element { has_element present.now.past.now.document.nodes present.now.who ≡ true }
-    requires moment { IsPresent present.now.past.now present.now.moment }
+fn repeat_at(subject: &Subject<'_>, place: u32, simple: Time) -> Option<DueChange>
+    requires { IsFound subject.now }
     ensures { (e : AnyNode)
-        → node_at (elements present.now.past.now.document.nodes) present.now.who ≡ Some e
-        → and_coming result []
-        ≡ coming_repeat_at (history_of present.now.past.now) present.now.moment place e simple
-        (later_time simple (iteration_start (history_of present.now.past.now) present.now.who)) }
+        → node_at (elements subject.now.present.past.now.document.nodes) subject.now.present.who
+        ≡ Some e → and_coming result []
+        ≡ coming_repeat_at (history_of subject.now.present.past.now) subject.now.present.moment
+        place e simple
+        (later_time simple (iteration_start (history_of subject.now.present.past.now)
+        subject.now.present.who)) }
 {
-    let play = last_play(present.past, present.who);
+    let play = last_play(subject);
     let Time::At(over) = later(simple, play.start) else {
         return None;
     };
-    if !goes_on(bounds_of(present.past, present.who), simple, &play, over) {
+    let bounds = bounds_of(subject.present.past, subject.present.who);
+    if !goes_on(bounds, simple, &play, over) {
         return None;
     }
     Some(DueChange {
         key: Key {
-            value: moment_of(present, over),
+            value: moment_of(subject, over),
             class: END_CLASS,
             position: place,
-            serial: present.who,
+            serial: subject.present.who,
             repeat: true,
         },
         change: Change::Repeats { start: over },
@@ -202,29 +215,32 @@ fn bounds_of(past: &Past, who: u32) -> Bounds
 }
 
 // The moment at which the own clock of an element shows a value, if it goes on as now.
-fn moment_of(present: &Present<'_>, value: i64) -> i64
-    requires moment { IsPresent present.now.past.now present.now.moment }
+fn moment_of(subject: &Subject<'_>, value: i64) -> i64
+    requires found { IsFound subject.now }
     requires near { IsNear value }
-    ensures { result ≡ present.now.moment
-        +ℤ (value -ℤ run (history_of present.now.past.now) present.now.who present.now.moment) }
+    ensures { result ≡ subject.now.present.moment
+        +ℤ (value -ℤ run (history_of subject.now.present.past.now) subject.now.present.who
+        subject.now.present.moment) }
 {
-    let clocks = present.past.clocks();
-    present.moment + (value - clocks.run(present.who, present.moment))
+    subject.present.moment + (value - subject.clocks.own)
 }
 
 // The last play of an element, by what its own clock tells.
-fn last_play(past: &Past, who: u32) -> Play
-    requires { has_element past.now.document.nodes who ≡ true }
-    ensures first { result.first ≡ play_start (history_of past.now) who }
-    ensures start { result.start ≡ iteration_start (history_of past.now) who }
-    ensures iteration { result.iteration ≡ iteration (history_of past.now) who }
+fn last_play(subject: &Subject<'_>) -> Play
+    requires { IsFound subject.now }
+    ensures first { result.first
+        ≡ play_start (history_of subject.now.present.past.now) subject.now.present.who }
+    ensures start { result.start
+        ≡ iteration_start (history_of subject.now.present.past.now) subject.now.present.who }
+    ensures iteration { result.iteration
+        ≡ iteration (history_of subject.now.present.past.now) subject.now.present.who }
 {
-    let played = played_of(past, who);
+    let played = subject.played;
     Play {
         begin: 0,
         first: played.first,
         start: played.start,
-        iteration: past.book().iteration(who, parent_of(past, who)),
+        iteration: played.iteration,
         shift: None,
     }
 }

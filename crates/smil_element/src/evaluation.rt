@@ -5,21 +5,21 @@ ghost use Rattle.smil_model.specs.declared.document.Node.{Node as AnyNode};
 ghost use Rattle.smil_model.specs.declared.interval.Interval.{Interval as AnyInterval};
 ghost use Rattle.smil_model.specs.document.Document.{elements, node_at, is_container_kind};
 ghost use Rattle.smil_model.specs.document.Dependencies.{has_implicit_duration};
-ghost use Rattle.smil_model.specs.diary.Lawful.{has_element};
 ghost use Rattle.smil_model.specs.interval.Instances.{begin_times, end_times};
 ghost use Rattle.smil_model.specs.interval.Current;
 ghost use Rattle.smil_model.specs.interval.Current.{container_implicit, simple_of};
-ghost use Rattle.smil_past.specs.Past.{IsPresent, history_of};
+ghost use Rattle.smil_past.specs.Past.{history_of};
 ghost use Rattle.smil_element.specs.Element.{IsEvaluated};
+ghost use Rattle.smil_element.specs.Subject.{IsFound};
 
 use super::expected::{EvaluationInput, is_settled, pour_begins, pour_ends};
-use super::facts::{facts_of, kind_of, played_of};
+use super::facts::{facts_of, kind_of};
 use super::intervals::{Container, Containers, Intervals};
 use super::present::Present;
+use super::subject::Subject;
 use smil_duration::implicit_by_kind;
 use smil_interval::{Steps, evaluate};
 use smil_model::{ChildEnd, Edge, Interval, Kind, Time};
-use smil_past::Past;
 use std::alloc::{AllocError, Global};
 use std::sync::ledger::Ledger;
 
@@ -54,38 +54,31 @@ impl Room {
 /// is implicit. Refused where memory runs out for the lists that it reads, and then at most one is
 /// counted.
 pub fn evaluation_of<J: Containers, L: Ledger>(
-    present: &Present<'_>,
+    subject: &Subject<'_>,
     intervals: &J,
     room: &mut Room,
     steps: &mut Steps<L>,
 ) -> Result<Evaluation, AllocError>
-    requires element { has_element present.now.past.now.document.nodes present.now.who ≡ true }
-    requires moment { IsPresent present.now.past.now present.now.moment }
+    requires found { IsFound subject.now }
     requires known { (e : AnyNode)
-        → node_at (elements present.now.past.now.document.nodes) present.now.who ≡ Some e
-        → has_implicit_duration e ≡ true
-        → J.knows_ends intervals.now (history_of present.now.past.now) present.now.who }
+        → node_at (elements subject.now.present.past.now.document.nodes) subject.now.present.who
+        ≡ Some e → has_implicit_duration e ≡ true
+        → J.knows_ends intervals.now (history_of subject.now.present.past.now)
+        subject.now.present.who }
     ensures made { (e : AnyNode)
-        → node_at (elements present.now.past.now.document.nodes) present.now.who ≡ Some e
-        → IfOk result (IsEvaluated (history_of present.now.past.now) (J.given intervals.now)
-        present.now.moment e) }
+        → node_at (elements subject.now.present.past.now.document.nodes) subject.now.present.who
+        ≡ Some e → IfOk result (IsEvaluated (history_of subject.now.present.past.now)
+        (J.given intervals.now) subject.now.present.moment e) }
     ensures steps { OnOk result (steps.new ≡ steps.old + 1) }
     ensures most { steps.new ≤ steps.old + 1 }
     ensures counted { steps.old ≤ steps.new }
 {
-    let past = present.past;
-    let who = present.who;
-    let simple = simple_duration(past, intervals, who, &mut room.children)?;
-    let reading = EvaluationInput {
-        past,
-        intervals,
-        moment: present.moment,
-    };
-    let begins = begins_of(&reading, who, &mut room.begins)?;
-    let ends = ends_of(&reading, who, &mut room.ends)?;
-    let facts = facts_of(present, simple);
+    let simple = simple_duration(subject, intervals, &mut room.children)?;
+    let reading = EvaluationInput { subject, intervals };
+    let begins = begins_of(&reading, &mut room.begins)?;
+    let ends = ends_of(&reading, &mut room.ends)?;
     Ok(Evaluation {
-        interval: evaluate(begins, ends, &facts, steps),
+        interval: evaluate(begins, ends, &facts_of(subject, simple), steps),
         simple,
     })
 }
@@ -94,19 +87,22 @@ pub fn evaluation_of<J: Containers, L: Ledger>(
 // else those that the list is filled with. Refused where memory runs out.
 fn begins_of<'a, J: Intervals>(
     reading: &EvaluationInput<'a, '_, J>,
-    who: u32,
     times: &'a mut Vec<i64>,
 ) -> Result<&'a [i64], AllocError>
-    requires element { has_element reading.now.past.now.document.nodes who ≡ true }
-    requires moment { IsPresent reading.now.past.now reading.now.moment }
-    ensures { (e : AnyNode) → node_at (elements reading.now.past.now.document.nodes) who ≡ Some e
-        → IfOk result (λ begins. begins.now ≡ begin_times (history_of reading.now.past.now)
-        (J.given reading.now.intervals.now) reading.now.moment e) }
+    requires { IsFound reading.now.subject.now }
+    ensures { (e : AnyNode)
+        → node_at (elements reading.now.subject.now.present.past.now.document.nodes)
+        reading.now.subject.now.present.who ≡ Some e
+        → IfOk result (λ begins. begins.now
+        ≡ begin_times (history_of reading.now.subject.now.present.past.now)
+        (J.given reading.now.intervals.now) reading.now.subject.now.present.moment e) }
 {
-    if is_settled(reading.past, who, Edge::Begin) {
-        return Ok(reading.past.instances().begins(who));
+    if is_settled(reading.subject, Edge::Begin) {
+        let subject = reading.subject;
+        let present = subject.present;
+        return Ok(present.past.instances().begins(present.who));
     }
-    pour_begins(reading, who, times)?;
+    pour_begins(reading, times)?;
     Ok(times)
 }
 
@@ -114,90 +110,112 @@ fn begins_of<'a, J: Intervals>(
 // else those that the list is filled with. Refused where memory runs out.
 fn ends_of<'a, J: Intervals>(
     reading: &EvaluationInput<'a, '_, J>,
-    who: u32,
     times: &'a mut Vec<Time>,
 ) -> Result<&'a [Time], AllocError>
-    requires element { has_element reading.now.past.now.document.nodes who ≡ true }
-    requires moment { IsPresent reading.now.past.now reading.now.moment }
-    ensures { (e : AnyNode) → node_at (elements reading.now.past.now.document.nodes) who ≡ Some e
-        → IfOk result (λ ends. ends.now ≡ end_times (history_of reading.now.past.now)
-        (J.given reading.now.intervals.now) reading.now.moment e) }
+    requires { IsFound reading.now.subject.now }
+    ensures { (e : AnyNode)
+        → node_at (elements reading.now.subject.now.present.past.now.document.nodes)
+        reading.now.subject.now.present.who ≡ Some e
+        → IfOk result (λ ends. ends.now
+        ≡ end_times (history_of reading.now.subject.now.present.past.now)
+        (J.given reading.now.intervals.now) reading.now.subject.now.present.moment e) }
 {
-    if is_settled(reading.past, who, Edge::End) {
-        return Ok(reading.past.instances().ends(who));
+    if is_settled(reading.subject, Edge::End) {
+        let subject = reading.subject;
+        let present = subject.present;
+        return Ok(present.past.instances().ends(present.who));
     }
-    pour_ends(reading, who, times)?;
+    pour_ends(reading, times)?;
     Ok(times)
 }
 
 // The simple duration of an element, given the intervals of its time children.
 fn simple_duration<J: Containers>(
-    past: &Past,
+    subject: &Subject<'_>,
     intervals: &J,
-    who: u32,
     children: &mut Vec<ChildEnd>,
 ) -> Result<Time, AllocError>
-    requires element { has_element past.now.document.nodes who ≡ true }
-    requires known { (e : AnyNode) → node_at (elements past.now.document.nodes) who ≡ Some e
-        → has_implicit_duration e ≡ true → J.knows_ends intervals.now (history_of past.now) who }
-    ensures { (e : AnyNode) → node_at (elements past.now.document.nodes) who ≡ Some e
-        → IfOk result (λ simple. simple
-        ≡ simple_of (history_of past.now) (J.given intervals.now) e) }
+    requires found { IsFound subject.now }
+    requires known { (e : AnyNode)
+        → node_at (elements subject.now.present.past.now.document.nodes) subject.now.present.who
+        ≡ Some e → has_implicit_duration e ≡ true
+        → J.knows_ends intervals.now (history_of subject.now.present.past.now)
+        subject.now.present.who }
+    ensures { (e : AnyNode)
+        → node_at (elements subject.now.present.past.now.document.nodes) subject.now.present.who
+        ≡ Some e → IfOk result (λ simple. simple
+        ≡ simple_of (history_of subject.now.present.past.now) (J.given intervals.now) e) }
 {
-    match past.makeup(who).simple {
+    match subject.row.makeup().simple {
         Some(simple) => Ok(simple),
-        None => implicit_duration(past, intervals, who, children),
+        None => implicit_duration(subject, intervals, children),
     }
 }
 
 // The implicit duration of an element: by its kind, or what the time children of a container tell,
 // or the length of continuous media that the diary tells.
 fn implicit_duration<J: Containers>(
-    past: &Past,
+    subject: &Subject<'_>,
     intervals: &J,
-    who: u32,
     children: &mut Vec<ChildEnd>,
 ) -> Result<Time, AllocError>
-    requires element { has_element past.now.document.nodes who ≡ true }
-    requires known { J.knows_ends intervals.now (history_of past.now) who }
-    ensures { (e : AnyNode) → node_at (elements past.now.document.nodes) who ≡ Some e
-        → IfOk result (λ implicit. implicit
-        ≡ Current.implicit_duration (history_of past.now) (J.given intervals.now) e) }
+    requires found { IsFound subject.now }
+    requires known { J.knows_ends intervals.now (history_of subject.now.present.past.now)
+        subject.now.present.who }
+    ensures { (e : AnyNode)
+        → node_at (elements subject.now.present.past.now.document.nodes) subject.now.present.who
+        ≡ Some e → IfOk result (λ implicit. implicit
+        ≡ Current.implicit_duration (history_of subject.now.present.past.now)
+        (J.given intervals.now) e) }
 {
-    match kind_of(past, who) {
-        Kind::Par | Kind::Seq | Kind::Excl => container_duration(past, intervals, who, children),
-        kind => Ok(media_duration(past, who, kind)),
+    let kind = kind_of(subject.present.past, subject.present.who);
+    if is_container(kind) {
+        container_duration(subject, intervals, children)
+    } else {
+        Ok(media_duration(subject, kind))
     }
 }
 
+// Whether an element of this kind is a container.
+fn is_container(kind: Kind) -> bool
+    ensures { result ≡ is_container_kind kind }
+{
+    matches!(kind, Kind::Par | Kind::Seq | Kind::Excl)
+}
+
 // The implicit duration of an element of this kind that is no container. It takes no memory.
-fn media_duration(past: &Past, who: u32, kind: Kind) -> Time
-    requires { has_element past.now.document.nodes who ≡ true }
-    ensures { (e : AnyNode) → node_at (elements past.now.document.nodes) who ≡ Some e
-        → (intervals : ℕ → Option AnyInterval) → is_container_kind kind ≡ false → result
-        ≡ Current.implicit_of (history_of past.now) intervals e kind }
+fn media_duration(subject: &Subject<'_>, kind: Kind) -> Time
+    requires { IsFound subject.now }
+    ensures { (e : AnyNode)
+        → node_at (elements subject.now.present.past.now.document.nodes) subject.now.present.who
+        ≡ Some e → (intervals : ℕ → Option AnyInterval) → is_container_kind kind ≡ false
+        → result
+        ≡ Current.implicit_of (history_of subject.now.present.past.now) intervals e kind }
 {
     match implicit_by_kind(kind) {
         Some(length) => length,
-        None => played_of(past, who).length,
+        None => subject.played.length,
     }
 }
 
 // The implicit duration of a container, unresolved while it is not active.
 fn container_duration<J: Containers>(
-    past: &Past,
+    subject: &Subject<'_>,
     intervals: &J,
-    who: u32,
     children: &mut Vec<ChildEnd>,
 ) -> Result<Time, AllocError>
-    requires element { has_element past.now.document.nodes who ≡ true }
-    requires known { J.knows_ends intervals.now (history_of past.now) who }
-    ensures { (e : AnyNode) → node_at (elements past.now.document.nodes) who ≡ Some e
-        → IfOk result (λ implicit. implicit
-        ≡ container_implicit (history_of past.now) (J.given intervals.now) e) }
+    requires found { IsFound subject.now }
+    requires known { J.knows_ends intervals.now (history_of subject.now.present.past.now)
+        subject.now.present.who }
+    ensures { (e : AnyNode)
+        → node_at (elements subject.now.present.past.now.document.nodes) subject.now.present.who
+        ≡ Some e → IfOk result (λ implicit. implicit
+        ≡ container_implicit (history_of subject.now.present.past.now) (J.given intervals.now)
+        e) }
 {
+    let Present { past, who, .. } = subject.present;
     past.possible();
-    let played = played_of(past, who);
+    let played = subject.played;
     if played.begun.is_none() {
         return Ok(Time::Unresolved);
     }

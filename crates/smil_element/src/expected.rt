@@ -1,60 +1,84 @@
 //! Instance times, with those that follow from the intervals of other elements.
 
-ghost use Rattle.std.specs.Prelude.{◌≡◌, Some, true, flat_map, option_to_list, IfSome, OnOk};
+ghost use Rattle.std.specs.Prelude.{◌≡◌, Some, None, ◌||◌, if◌then◌else◌, flat_map, option_to_list, IfSome, OnOk};
 ghost use Rattle.smil_model.specs.declared.document.Node.{Node as AnyNode};
 ghost use Rattle.smil_model.specs.document.Document.{elements, node_at};
+ghost use Rattle.smil_model.specs.diary.Clocks.{between, outer_stands};
 ghost use Rattle.smil_model.specs.diary.Diary.{is_active};
-ghost use Rattle.smil_model.specs.diary.Lawful.{has_element};
 ghost use Rattle.smil_model.specs.interval.Instances.{begin_times, end_times, expected_times, interval_edge};
 ghost use Rattle.smil_model.specs.Rising.{IsRising};
 ghost use Rattle.smil_past.specs.Syncs.{expected_by, is_empty, syncs_of};
 ghost use Rattle.smil_model.specs.Times.{IsNear};
 ghost use Rattle.smil_element.specs.Pouring.{with_times};
-ghost use Rattle.smil_past.specs.Past.{IsPresent, history_of};
+ghost use Rattle.smil_past.specs.Past.{history_of};
+ghost use Rattle.smil_element.specs.Subject.{IsFound};
 
 use super::intervals::Intervals;
+use super::present::Present;
+use super::subject::Subject;
 use smil_instance_rows::{Instant, put_in};
 use smil_model::{Edge, Time, moved};
-use smil_past::{Past, Syncbase};
+use smil_past::Syncbase;
 use std::alloc::AllocError;
 
-/// What an evaluation reads: what has happened, the intervals of the elements, and the present
-/// moment, in milliseconds of document time.
+/// What an evaluation reads: an element at a moment, with what is found of it, and the intervals of
+/// the elements.
 #[derive(Drop)]
 pub struct EvaluationInput<'a, 'b, J: Intervals> {
-    pub past: &'a Past,
+    pub subject: &'a Subject<'a>,
     pub intervals: &'b J,
-    pub moment: i64,
 }
 
 /// The time that an item of an element gives by the interval of the element that it waits for; None
 /// where that has no interval, where its begin is meant and has happened, where its end is meant
 /// and is no number, and where one of the two clocks stands. It takes no memory.
-pub fn expected<J: Intervals>(
-    reading: &EvaluationInput<J>,
-    who: u32,
-    sync: Syncbase,
-) -> Option<Time>
-    requires { IsPresent reading.now.past.now reading.now.moment }
-    ensures { option_to_list result ≡ expected_times (history_of reading.now.past.now)
-        (J.given reading.now.intervals.now) reading.now.moment who sync.of sync.offset sync.edge }
+pub fn expected<J: Intervals>(reading: &EvaluationInput<J>, sync: Syncbase) -> Option<Time>
+    requires { IsFound reading.now.subject.now }
+    ensures { option_to_list result
+        ≡ expected_times (history_of reading.now.subject.now.present.past.now)
+        (J.given reading.now.intervals.now) reading.now.subject.now.present.moment
+        reading.now.subject.now.present.who sync.of sync.offset sync.edge }
 {
     let value = edge_value(reading, sync)?;
-    let clocks = reading.past.clocks();
-    let shown = clocks.running_between(sync.of, who, value, reading.moment)?;
+    let shown = shown_here(reading.subject, sync.of, value)?;
     Some(moved(shown, sync.offset))
+}
+
+// A value on the clock of the time parent of `from`, on that of the time parent of the element;
+// None where one of these two clocks stands.
+fn shown_here(subject: &Subject<'_>, from: u32, value: i64) -> Option<i64>
+    requires found { IsFound subject.now }
+    requires near { IsNear value }
+    ensures { result ≡ (if outer_stands (history_of subject.now.present.past.now)
+        subject.now.present.who || outer_stands (history_of subject.now.present.past.now) from
+        then None
+        else Some (between (history_of subject.now.present.past.now) from
+        subject.now.present.who value subject.now.present.moment)) }
+{
+    let own = subject.clocks;
+    let other = subject
+        .present
+        .past
+        .clocks()
+        .readings(from, subject.present.moment);
+    if own.outer_stands || other.outer_stands {
+        return None;
+    }
+    Some(own.outer + (value - other.outer))
 }
 
 // The begin of an interval before it has happened, or its end where that is a number.
 fn edge_value<J: Intervals>(reading: &EvaluationInput<J>, sync: Syncbase) -> Option<i64>
-    ensures value { result ≡ interval_edge sync.edge (is_active reading.now.past.now.diary sync.of)
+    ensures value { result ≡ interval_edge sync.edge
+        (is_active reading.now.subject.now.present.past.now.diary sync.of)
         (J.given reading.now.intervals.now sync.of) }
     ensures near { IfSome result IsNear }
 {
     let interval = reading.intervals.interval(sync.of)?;
     match sync.edge {
         Edge::Begin => {
-            if reading.past.active(sync.of) {
+            let subject = reading.subject;
+            if subject.present.past.active(sync.of) {
                 None
             } else {
                 Some(interval.begin)
@@ -71,67 +95,71 @@ fn edge_value<J: Intervals>(reading: &EvaluationInput<J>, sync: Syncbase) -> Opt
 /// expected ones in their places. Refused where memory runs out.
 pub fn pour_begins<J: Intervals>(
     reading: &EvaluationInput<J>,
-    who: u32,
     times: &mut Vec<i64>,
 ) -> Result<(), AllocError>
-    requires element { has_element reading.now.past.now.document.nodes who ≡ true }
-    requires moment { IsPresent reading.now.past.now reading.now.moment }
-    ensures { (e : AnyNode) → node_at (elements reading.now.past.now.document.nodes) who ≡ Some e
-        → OnOk result (times.new.items ≡ begin_times (history_of reading.now.past.now)
-        (J.given reading.now.intervals.now) reading.now.moment e) }
+    requires { IsFound reading.now.subject.now }
+    ensures { (e : AnyNode)
+        → node_at (elements reading.now.subject.now.present.past.now.document.nodes)
+        reading.now.subject.now.present.who ≡ Some e → OnOk result (times.new.items
+        ≡ begin_times (history_of reading.now.subject.now.present.past.now)
+        (J.given reading.now.intervals.now) reading.now.subject.now.present.moment e) }
 {
+    let subject = reading.subject;
+    let Present { past, who, .. } = subject.present;
     times.clear();
-    times.extend_from_slice(reading.past.instances().begins(who))?;
-    let syncs = reading.past.syncs().of_element(who, Edge::Begin);
-    pour(reading, who, syncs, times)
+    times.extend_from_slice(past.instances().begins(who))?;
+    pour(reading, subject.row.side(Edge::Begin), times)
 }
 
 /// The end instance times of an element, in rising order: those that the diary gives, with the
 /// expected ones in their places. Refused where memory runs out.
 pub fn pour_ends<J: Intervals>(
     reading: &EvaluationInput<J>,
-    who: u32,
     times: &mut Vec<Time>,
 ) -> Result<(), AllocError>
-    requires element { has_element reading.now.past.now.document.nodes who ≡ true }
-    requires moment { IsPresent reading.now.past.now reading.now.moment }
-    ensures { (e : AnyNode) → node_at (elements reading.now.past.now.document.nodes) who ≡ Some e
-        → OnOk result (times.new.items ≡ end_times (history_of reading.now.past.now)
-        (J.given reading.now.intervals.now) reading.now.moment e) }
+    requires { IsFound reading.now.subject.now }
+    ensures { (e : AnyNode)
+        → node_at (elements reading.now.subject.now.present.past.now.document.nodes)
+        reading.now.subject.now.present.who ≡ Some e → OnOk result (times.new.items
+        ≡ end_times (history_of reading.now.subject.now.present.past.now)
+        (J.given reading.now.intervals.now) reading.now.subject.now.present.moment e) }
 {
+    let subject = reading.subject;
+    let Present { past, who, .. } = subject.present;
     times.clear();
-    times.extend_from_slice(reading.past.instances().ends(who))?;
-    let syncs = reading.past.syncs().of_element(who, Edge::End);
-    pour(reading, who, syncs, times)
+    times.extend_from_slice(past.instances().ends(who))?;
+    pour(reading, subject.row.side(Edge::End), times)
 }
 
 /// Whether no item of a list of an element gives a time by the interval of another element, so that
 /// the diary alone gives its instance times. It takes no memory.
-pub fn is_settled(past: &Past, who: u32, side: Edge) -> bool
-    requires { has_element past.now.document.nodes who ≡ true }
-    ensures { (e : AnyNode) → node_at (elements past.now.document.nodes) who ≡ Some e → result
-        ≡ is_empty (syncs_of past.now.document.nodes side e) }
+pub fn is_settled(subject: &Subject<'_>, side: Edge) -> bool
+    requires { IsFound subject.now }
+    ensures { (e : AnyNode)
+        → node_at (elements subject.now.present.past.now.document.nodes) subject.now.present.who
+        ≡ Some e → result
+        ≡ is_empty (syncs_of subject.now.present.past.now.document.nodes side e) }
 {
-    past.syncs().of_element(who, side).is_empty()
+    subject.row.side(side).is_empty()
 }
 
 // Puts the expected times of an element by what its items wait for in their places among rising
 // ones.
 fn pour<T: Instant, J: Intervals>(
     reading: &EvaluationInput<J>,
-    who: u32,
     syncs: &[Syncbase],
     times: &mut Vec<T>,
 ) -> Result<(), AllocError>
-    requires moment { IsPresent reading.now.past.now reading.now.moment }
+    requires found { IsFound reading.now.subject.now }
     requires rising { IsRising T.at_most times.old.items }
     ensures { OnOk result (times.new.items
         ≡ with_times T.at_most T.choose (flat_map
-        (expected_by (history_of reading.now.past.now) (J.given reading.now.intervals.now)
-        reading.now.moment who) syncs.now) times.old.items) }
+        (expected_by (history_of reading.now.subject.now.present.past.now)
+        (J.given reading.now.intervals.now) reading.now.subject.now.present.moment
+        reading.now.subject.now.present.who) syncs.now) times.old.items) }
 {
     for sync in syncs {
-        put_some(times, expected(reading, who, *sync))?;
+        put_some(times, expected(reading, *sync))?;
     }
     Ok(())
 }

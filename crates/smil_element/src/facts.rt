@@ -9,34 +9,32 @@ ghost use Rattle.smil_model.specs.diary.Diary as diary;
 ghost use Rattle.smil_model.specs.diary.Lawful.{has_element};
 ghost use Rattle.smil_model.specs.interval.Current as model;
 ghost use Rattle.smil_model.specs.document.Document.{serial_of};
-ghost use Rattle.smil_past.specs.Past.{IsPresent, history_of};
+ghost use Rattle.smil_past.specs.Past.{history_of};
 ghost use Rattle.smil_past.specs.Played.{played as kept_of};
 ghost use Rattle.smil_element.specs.Element.{interval_in, shift_of};
+ghost use Rattle.smil_element.specs.Subject.{IsFound};
 
-use super::present::Present;
+use super::subject::Subject;
 use smil_model::{Attrs, Facts, Interval, Kind, Play, Time};
 use smil_past::{Past, PastInterval, PlayFacts};
 
-/// The facts of an element at a moment, by its simple duration. It takes no memory, and log n steps
-/// for n repeats.
-pub fn facts_of(present: &Present<'_>, simple: Time) -> Facts
-    requires element { has_element present.now.past.now.document.nodes present.now.who ≡ true }
-    requires moment { IsPresent present.now.past.now present.now.moment }
+/// The facts of an element at a moment, by its simple duration. It takes no memory.
+pub fn facts_of(subject: &Subject<'_>, simple: Time) -> Facts
+    requires { IsFound subject.now }
     ensures { (e : AnyNode) (intervals : ℕ → Option AnyInterval)
-        → node_at (elements present.now.past.now.document.nodes) present.now.who ≡ Some e
-        → simple ≡ model.simple_of (history_of present.now.past.now) intervals e → result
-        ≡ model.facts_of (history_of present.now.past.now) intervals present.now.moment e }
+        → node_at (elements subject.now.present.past.now.document.nodes) subject.now.present.who
+        ≡ Some e
+        → simple ≡ model.simple_of (history_of subject.now.present.past.now) intervals e → result
+        ≡ model.facts_of (history_of subject.now.present.past.now) intervals
+        subject.now.present.moment e }
 {
-    let past = present.past;
-    past.possible();
-    let parent = parent_of(past, present.who);
-    let played = played_of(past, present.who);
-    let makeup = past.makeup(present.who);
+    let played = subject.played;
+    let makeup = subject.row.makeup();
     Facts {
-        alive: is_alive(past, parent),
+        alive: subject.alive,
         deferred: played.shown_deferred.is_some(),
-        play: present_play(present, parent, played),
-        parent_start: parent_start(past, parent),
+        play: present_play(subject),
+        parent_start: subject.parent_start,
         last: last_interval(played),
         passed: played.passed,
         end_list: makeup.end_list,
@@ -98,51 +96,36 @@ pub(crate) fn is_alive(past: &Past, parent: Option<u32>) -> bool
     }
 }
 
-// The start of a time parent's present iteration; 0 for the root, which has no time parent.
-fn parent_start(past: &Past, parent: Option<u32>) -> i64
-    requires { IfSome parent (λ p. has_element past.now.document.nodes p ≡ true) }
-    ensures { (node : Option AnyNode) → serial_of node ≡ parent → result
-        ≡ clocks.start_under (history_of past.now) node }
-{
-    match parent {
-        Some(parent) => played_of(past, parent).start,
-        None => 0,
-    }
-}
-
-// The present play of an active element, whose time parent is `parent`.
-fn present_play(present: &Present<'_>, parent: Option<u32>, played: &PlayFacts) -> Option<Play>
-    requires element { has_element present.now.past.now.document.nodes present.now.who ≡ true }
-    requires moment { IsPresent present.now.past.now present.now.moment }
-    requires kept { played.now ≡ kept_of (history_of present.now.past.now) present.now.who }
+// The present play of an active element.
+fn present_play(subject: &Subject<'_>) -> Option<Play>
+    requires { IsFound subject.now }
     ensures { (e : AnyNode)
-        → node_at (elements present.now.past.now.document.nodes) present.now.who ≡ Some e
-        → serial_of (time_parent present.now.past.now.document.nodes present.now.who) ≡ parent
-        → result ≡ model.present_play (history_of present.now.past.now) present.now.moment e }
+        → node_at (elements subject.now.present.past.now.document.nodes) subject.now.present.who
+        ≡ Some e → result ≡ model.present_play (history_of subject.now.present.past.now)
+        subject.now.present.moment e }
 {
-    present.past.possible();
+    subject.present.past.possible();
+    let played = subject.played;
     let begin = played.begun?;
     Some(Play {
         begin,
         first: played.first,
         start: played.start,
-        iteration: present.past.book().iteration(present.who, parent),
-        shift: shift(present),
+        iteration: played.iteration,
+        shift: shift(subject),
     })
 }
 
 // How far the time parent's clock is ahead of the element's own; None while the element is paused.
-fn shift(present: &Present<'_>) -> Option<i64>
-    requires { IsPresent present.now.past.now present.now.moment }
-    ensures { result
-        ≡ shift_of (history_of present.now.past.now) present.now.who present.now.moment }
+fn shift(subject: &Subject<'_>) -> Option<i64>
+    requires { IsFound subject.now }
+    ensures { result ≡ shift_of (history_of subject.now.present.past.now)
+        subject.now.present.who subject.now.present.moment }
 {
-    if present.past.book().paused(present.who) {
+    if subject.played.paused {
         return None;
     }
-    let clocks = present.past.clocks();
-    let outer = clocks.outer(present.who, present.moment);
-    Some(outer - clocks.run(present.who, present.moment))
+    Some(subject.clocks.outer - subject.clocks.own)
 }
 
 // The last finished interval, as the search for the next one sees it.

@@ -9,9 +9,11 @@ ghost use Rattle.smil_model.specs.diary.Lawful.{has_element};
 ghost use Rattle.smil_model.specs.shown.Views.{is_displaced, is_frozen_by, keeps, view_facts};
 ghost use Rattle.smil_past.specs.Past.{history_of};
 ghost use Rattle.smil_element.specs.Shown.{frozen_at, is_cut};
+ghost use Rattle.smil_element.specs.Subject.{IsFound};
 
 use super::displaced::is_displaced;
 use super::facts::{is_alive, parent_of, played_of};
+use super::subject::Subject;
 use smil_model::Fill;
 use smil_past::{Past, PastInterval};
 
@@ -31,6 +33,17 @@ pub(crate) fn is_frozen(past: &Past, who: Option<u32>) -> bool
     }
     let above = is_frozen(past, parent_of(past, who));
     rests_frozen(past, who, above)
+}
+
+// Whether the time parent of an element is frozen; false where there is none.
+pub(crate) fn is_frozen_above(subject: &Subject<'_>) -> bool
+    requires { IsFound subject.now }
+    ensures { result ≡ frozen_at (history_of subject.now.present.past.now)
+        (serial_of (time_parent subject.now.present.past.now.document.nodes
+        subject.now.present.who)) }
+{
+    subject.present.past.possible();
+    !subject.alive && is_frozen(subject.present.past, subject.parent)
 }
 
 // Whether an element that is not active is frozen, by whether its time parent is.
@@ -63,7 +76,7 @@ fn freezes(last: Option<PastInterval>, kept: bool, shows: bool, above: bool) -> 
 }
 
 // Whether a time parent is active or frozen, or there is none.
-pub(crate) fn shows(past: &Past, parent: Option<u32>, frozen: bool) -> bool
+fn shows(past: &Past, parent: Option<u32>, frozen: bool) -> bool
     ensures { (node : Option AnyNode) → serial_of node ≡ parent
         → result ≡ (lives_under node past.now.diary || frozen) }
 {
@@ -85,7 +98,7 @@ fn is_kept(past: &Past, who: u32) -> bool
 }
 
 // The fill of an element that holds: never `auto`.
-pub(crate) fn fill_of(past: &Past, who: u32) -> Fill
+fn fill_of(past: &Past, who: u32) -> Fill
     requires { has_element past.now.document.nodes who ≡ true }
     ensures { (e : AnyNode) → node_at (elements past.now.document.nodes) who ≡ Some e → result
         ≡ effective_fill past.now.document.nodes e }

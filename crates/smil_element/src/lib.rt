@@ -12,6 +12,7 @@ mod frozen;
 mod happening;
 pub mod intervals;
 pub mod present;
+pub mod subject;
 pub mod view;
 
 pub use comings::{DueChanges, comings_of};
@@ -21,4 +22,5 @@ pub use facts::facts_of;
 pub use happening::{Change, DueChange, Parts, group_of, is_same_coming};
 pub use intervals::{Container, Containers, Intervals};
 pub use present::Present;
+pub use subject::{Subject, subject_of};
 pub use view::view_of;

@@ -13,11 +13,12 @@ ghost use Rattle.smil_model.specs.Times.{IsCarried};
 ghost use Rattle.smil_laws.specs.Near.{IsIntervalNear};
 ghost use Rattle.smil_past.specs.Past.{IsPresent, history_of};
 ghost use Rattle.smil_element.specs.Shown.{is_cut, minds, shown_last};
+ghost use Rattle.smil_element.specs.Subject.{IsFound};
 
 use super::displaced::is_displaced;
-use super::facts::{parent_of, played_of};
-use super::frozen::{fill_of, is_frozen, shows};
+use super::frozen::is_frozen_above;
 use super::present::Present;
+use super::subject::{Subject, subject_of};
 use smil_fill::view;
 use smil_model::{Fill, Interval, View, ViewFacts};
 use smil_past::PlayFacts;
@@ -34,36 +35,46 @@ pub fn view_of(present: &Present<'_>, interval: Option<Interval>) -> View
         → intervals present.now.who ≡ interval → result
         ≡ model.view_of (history_of present.now.past.now) present.now.moment intervals e }
 {
-    let past = present.past;
-    past.possible();
-    let above = is_frozen(past, parent_of(past, present.who));
-    view(&view_facts(present, interval, above))
+    view_by(&subject_of(present), interval)
+}
+
+// The view of an element by its current interval.
+fn view_by(subject: &Subject<'_>, interval: Option<Interval>) -> View
+    requires found { IsFound subject.now }
+    requires near { IfSome interval IsIntervalNear }
+    ensures { (e : AnyNode) (intervals : ℕ → Option AnyInterval)
+        → node_at (elements subject.now.present.past.now.document.nodes) subject.now.present.who
+        ≡ Some e → intervals subject.now.present.who ≡ interval → result
+        ≡ model.view_of (history_of subject.now.present.past.now) subject.now.present.moment
+        intervals e }
+{
+    subject.present.past.possible();
+    view(&view_facts(subject, interval, is_frozen_above(subject)))
 }
 
 // What the view of an element follows from, by whether its time parent is frozen.
-fn view_facts(present: &Present<'_>, interval: Option<Interval>, above: bool) -> ViewFacts
-    requires element { has_element present.now.past.now.document.nodes present.now.who ≡ true }
-    requires moment { IsPresent present.now.past.now present.now.moment }
+fn view_facts(subject: &Subject<'_>, interval: Option<Interval>, above: bool) -> ViewFacts
+    requires found { IsFound subject.now }
     requires near { IfSome interval IsIntervalNear }
     ensures same { (e : AnyNode)
-        → node_at (elements present.now.past.now.document.nodes) present.now.who ≡ Some e
-        → model.view_by result ≡ model.view_by
-        (model.view_facts (history_of present.now.past.now) present.now.moment interval
-        (lives_under (time_parent present.now.past.now.document.nodes present.now.who)
-        present.now.past.now.diary || above) above e) }
+        → node_at (elements subject.now.present.past.now.document.nodes) subject.now.present.who
+        ≡ Some e → model.view_by result ≡ model.view_by
+        (model.view_facts (history_of subject.now.present.past.now) subject.now.present.moment
+        interval
+        (lives_under (time_parent subject.now.present.past.now.document.nodes
+        subject.now.present.who) subject.now.present.past.now.diary || above) above e) }
     ensures near { HasNumbersWithin result }
 {
-    let past = present.past;
-    let who = present.who;
+    let past = subject.present.past;
+    let who = subject.present.who;
     past.possible();
-    let parent = parent_of(past, who);
-    let played = played_of(past, who);
+    let played = subject.played;
     let last = last_shown(played);
-    let fill = fill_of(past, who);
+    let fill = subject.row.makeup().fill;
     ViewFacts {
         serial: who,
         active: played.begun.is_some(),
-        paused: past.book().paused(who),
+        paused: played.paused,
         deferred: played.shown_deferred,
         interval,
         begun: played.shown_begun,
@@ -71,12 +82,12 @@ fn view_facts(present: &Present<'_>, interval: Option<Interval>, above: bool) ->
         cut: was_cut(played),
         fill,
         displaced: minds(fill, last) && is_displaced(past, who),
-        parent_shows: shows(past, parent, above),
+        parent_shows: subject.alive || above,
         parent_frozen: above,
-        standing: past.clocks().outer_stands(who),
-        shift: document_shift(present),
-        iteration: past.book().iteration(who, parent),
-        finished: past.book().finished(who, parent),
+        standing: subject.clocks.outer_stands,
+        shift: document_shift(subject),
+        iteration: played.iteration,
+        finished: played.finished,
     }
 }
 
@@ -110,11 +121,12 @@ fn minds(fill: Fill, last: Option<(i64, i64)>) -> bool
 }
 
 // How far document time is ahead of the clock of an element's time parent.
-fn document_shift(present: &Present<'_>) -> i64
-    requires { IsPresent present.now.past.now present.now.moment }
-    ensures value { result ≡ present.now.moment
-        -ℤ outer (history_of present.now.past.now) present.now.who present.now.moment }
+fn document_shift(subject: &Subject<'_>) -> i64
+    requires { IsFound subject.now }
+    ensures value { result ≡ subject.now.present.moment
+        -ℤ outer (history_of subject.now.present.past.now) subject.now.present.who
+        subject.now.present.moment }
     ensures within { IsCarried result }
 {
-    present.moment - present.past.clocks().outer(present.who, present.moment)
+    subject.present.moment - subject.clocks.outer
 }

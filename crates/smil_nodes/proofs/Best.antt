@@ -1,9 +1,8 @@
 -- The winner of a tournament is the least of the keys in its slots; one without keys has no winner.
-use Rattle.std.proofs.Common.{◌≡◌, ◌∙◌, ap, sym, refl, ℕ, zero, suc, Bool, true, false, List, [], ◌∷◌, ◌++◌, replicate}
+use Rattle.std.proofs.Common.{◌≡◌, ◌∙◌, ap, sym, refl, Bool, true, false, List, [], ◌∷◌, ◌++◌}
 use Rattle.std.specs.Prelude.{Option, None, Some, fold, if◌then◌else◌}
 use Rattle.std.proofs.Common.{Ordering, Less, Equal, Greater}
 use Rattle.std.specs.Ordering.{is_lt, ordering_reverse}
-use Rattle.std.proofs.lemmas.List.{map-append}
 use Rattle.std.proofs.lemmas.List.Elements.{filter_map-append}
 use Rattle.std.proofs.lemmas.List.Sums.{fold-append}
 use Rattle.smil_model.specs.declared.happening.Key.{Key}
@@ -11,8 +10,7 @@ use Rattle.smil_model.specs.happening.Keys.{comes_before, earlier_key, least_key
 use Rattle.smil_model.specs.Tournaments.{IsSum}
 use Rattle.smil_due.specs.Order.{happening_cmp, happening_cmp_total}
 use Rattle.smil_due.proofs.Before.{before_is_less, transitive, less_from}
-use Rattle.smil_nodes.specs.declared.due_tree.Slot.{Slot}
-use Rattle.smil_nodes.specs.Slots.{keys_in, keys_of, earlier_of, earlier_slot, no_slot}
+use Rattle.smil_nodes.specs.Slots.{keys_in, earlier_of}
 
 -- a key that comes before a second one, which a third doesn't come before either, comes before the third
 not_after : (a b c : Key) → comes_before c a ≡ true → comes_before b a ≡ false → comes_before c b ≡ true
@@ -105,26 +103,10 @@ least_beside_two a b slots =
 
 -- ---- the winner
 
--- the slot with the least key of all
-abbrev pub least_slot : List Slot → Slot
-least_slot slots = record { key = least_in (keys_of slots) }
-
-pub least_sums : IsSum no_slot earlier_slot least_slot
-least_sums = record { of_none = refl; of_one = of_one; of_both = of_both }
+-- the least key of all
+pub least_sums : IsSum None earlier_of (λ (slots : List (Option Key)). least_key (keys_in slots))
+least_sums = record { of_none = refl; of_one = of_one; of_both = least_of_both }
   where
-    own : (key : Option Key) → least_in (key ∷ []) ≡ key
-    own None = refl
-    own (Some k) = refl
-
-    of_one : (slot : Slot) → least_slot (slot ∷ []) ≡ slot
-    of_one slot = λ i. record { key = own slot.key i }
-
-    of_both : (xs ys : List Slot) → least_slot (xs ++ ys) ≡ earlier_slot (least_slot xs) (least_slot ys)
-    of_both xs ys =
-        λ i. record { key = (ap least_in (map-append (λ (s : Slot). s.key) xs ys) ∙ least_of_both (keys_of xs) (keys_of ys)) i }
-
--- ---- without keys
-
-pub empty_slots : (count : ℕ) → keys_of (replicate count no_slot) ≡ replicate count None
-empty_slots zero = refl
-empty_slots (suc count) = ap (λ keys. None ∷ keys) (empty_slots count)
+    of_one : (slot : Option Key) → least_in (slot ∷ []) ≡ slot
+    of_one None = refl
+    of_one (Some k) = refl

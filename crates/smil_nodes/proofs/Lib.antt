@@ -19,3 +19,4 @@ pub mod Family
 pub mod Staying
 pub mod Housing
 pub mod Knowing
+pub mod Marks

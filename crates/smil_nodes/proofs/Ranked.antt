@@ -3,10 +3,8 @@ use Rattle.std.proofs.Common.{◌≡◌, ◌∙◌, ap, subst, ℕ, zero, suc, �
 use Rattle.std.specs.Prelude.{cond, not, nat_eq, nat_lt, ◌==◌}
 use Rattle.std.specs.List.{IsDistinct, position, position_or_len}
 use Rattle.std.proofs.lemmas.Bool.{eq-eqb, lt-ltb}
-use Rattle.std.proofs.lemmas.List.{length-map}
-use Rattle.std.proofs.lemmas.List.Sorted.{length_permutation}
 use Rattle.smil_model.specs.declared.document.Node.{Node}
-use Rattle.smil_model.specs.document.Document.{elements, node_at, serials}
+use Rattle.smil_model.specs.document.Document.{elements, node_at}
 use Rattle.smil_laws.proofs.Rounds.{find-serial}
 use Rattle.smil_graph.specs.Graph.{IsGraphOrder}
 use Rattle.smil_rounds.proofs.Current.{ordered_element}
@@ -30,11 +28,6 @@ pub found_place : (s : ℕ) (xs : List ℕ) (j : ℕ) → IsDistinct nat_eq xs �
 found_place s xs j distinct lt at =
     ap (λ n. cond (nat_lt n (length xs)) (Some n) None) (first_place s xs j distinct lt at)
     ∙ ap (λ t. cond t (Some j) None) (lt-ltb j (length xs) lt)
-
--- of as many as there are
-pub order_length : (nodes : List Node) (order : List ℕ) → IsGraphOrder nodes order → length order ≡ length (elements nodes)
-order_length nodes order is =
-    length_permutation (serials (elements nodes)) order is.all ∙ length-map (elements nodes) (λ (n : Node). n.serial)
 
 -- each rank is that of an element
 pub element_of : (nodes : List Node) (order : List ℕ) (rank : ℕ) → IsGraphOrder nodes order → rank < length order → (e : Node) × (e.serial ≡ get_or order rank 0) × (node_at (elements nodes) e.serial ≡ Some e)

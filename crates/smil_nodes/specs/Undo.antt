@@ -1,5 +1,5 @@
 -- Elements as they were before they changed, by which a table goes back to its mark.
-use Rattle.std.specs.Prelude.{◌≡◌, ◌⊎◌, ℕ, List, [], ◌∷◌, ◌++◌, ◌==◌, Bool, true, false, IfSome, slice_index_or}
+use Rattle.std.specs.Prelude.{◌≡◌, ◌⊎◌, ℕ, ◌+◌, List, [], ◌∷◌, ◌++◌, ◌==◌, Bool, false, IfSome, if◌then◌else◌, slice_index_or}
 use Rattle.std.specs.List.{AllByRecursion, list_any}
 use Rattle.smil_laws.specs.Near.{IsIntervalNear}
 use Rattle.smil_rounds.specs.declared.current_rows.CurrentRow.{CurrentRow}
@@ -32,10 +32,15 @@ AreNearNotes notes = AllByRecursion (λ (n : Note). IfSome n.interval IsInterval
 abbrev pub has_note : List Note → ℕ → Bool
 has_note notes index = list_any (λ (n : Note). n.index == index) notes
 
--- each element that is marked by the index of its row has one of the notes
+-- how many of the notes are of the element whose row has this index
+abbrev pub note_count : List Note → ℕ → ℕ
+note_count [] index = 0
+note_count (n ∷ ns) index = (if n.index == index then 1 else 0) + note_count ns index
+
+-- each element that is marked by the index of its row has one of the notes, and no other has any
 abbrev pub AreMarked : List Bool → List Note → Type 0
 AreMarked marks notes =
-    (index : ℕ) → slice_index_or marks index false ≡ true → has_note notes index ≡ true
+    (index : ℕ) → note_count notes index ≡ (if slice_index_or marks index false then 1 else 0)
 
 -- an element as it is: the index of its row, with the row, and its ending
 abbrev pub note_of : ℕ → CurrentRow → KeptEnds → Note

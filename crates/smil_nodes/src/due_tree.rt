@@ -3,43 +3,132 @@
 ghost use Rattle.std.specs.Prelude.{◌≡◌, ◌<◌, ◌≤◌, None, IfOk, if◌then◌else◌, length, replicate, slice_set};
 ghost use Rattle.smil_model.specs.Tournaments.{most_items};
 ghost use Rattle.smil_model.specs.happening.Keys.{least_key};
-ghost use Rattle.smil_nodes.specs.Slots.{earlier_of, keys_in};
+ghost use Rattle.smil_nodes.specs.Slots.{earlier_of, keys_in, order_of, turned};
 
-use smil_due::comes_before;
-use smil_model::{Contender, Duplicate, Key, Tournament};
+use smil_model::{BEGIN_CLASS, Contender, Duplicate, Key, Tournament};
 use std::alloc::{AllocError, Global};
 use std::marker::Model;
 
-/// A slot with a key or none.
+/// The number of turns.
+const TURNS: u64 = 1 << 32;
+
+/// Behind the numbers of all keys.
+const NO_KEY: u64 = u64::MAX;
+
+/// A slot with a key or none, in numbers that are compared as they stand; seen as what it has.
 #[derive(Clone, Copy)]
 pub struct Slot {
-    pub key: Option<Key>,
+    /// The moment of the key; without a key the last of all.
+    value: i64,
+    /// The class, the turn and whether it repeats in one number, each of more weight than the next;
+    /// `NO_KEY` without a key.
+    order: u64,
+    serial: u32,
+}
+
+impl Model for Slot {
+    ghost use Rattle.std.specs.Prelude.{Option};
+    ghost use Rattle.smil_model.specs.declared.happening.Key.{Key as AnyKey};
+
+    ghost Value = { Option AnyKey };
+
+    ghost use Rattle.smil_nodes.specs.Slots.{IsSlot, key_in, slot_with};
+
+    ghost view = { key_in };
+
+    ghost invariant = { IsSlot };
+
+    ghost inverse = { slot_with };
+
+    ghost inverse_ok = { λ a is. is.back };
 }
 
 impl Contender for Slot {
-    ghost use Rattle.smil_nodes.specs.Slots.{earlier_slot, no_slot};
+    ghost use Rattle.std.specs.Prelude.{None};
+    ghost use Rattle.smil_nodes.specs.Slots.{earlier_of};
 
-    ghost none = { no_slot };
+    ghost none = { None };
 
-    ghost both = { earlier_slot };
+    ghost both = { earlier_of };
 
     // A slot without a key.
     fn none() -> Slot {
-        Slot { key: None }
+        Slot {
+            value: i64::MAX,
+            order: NO_KEY,
+            serial: 0,
+        }
     }
 
-    // The slot with the earlier key of two.
+    // The slot with the earlier key of two; of two that tie the first.
     fn with(self, behind: Slot) -> Slot {
-        if is_overtaken(self.key, behind.key) {
-            behind
-        } else {
-            self
-        }
+        if behind.is_before(self) { behind } else { self }
     }
 
     // Whether the two have the same key, or none.
     fn is_same(self, other: Slot) -> bool {
-        self.key == other.key
+        self.value == other.value && self.order == other.order && self.serial == other.serial
+    }
+}
+
+impl Slot {
+    // The slot with a key, or none.
+    fn of(key: Option<Key>) -> Slot
+        ensures { result ≡ key }
+    {
+        match key {
+            None => Slot::none(),
+            Some(key) => Slot {
+                value: key.value,
+                order: order_of(key),
+                serial: key.serial,
+            },
+        }
+    }
+
+    // What it has.
+    fn key(self) -> Option<Key>
+        ensures { result ≡ self }
+    {
+        if self.order == NO_KEY {
+            return None;
+        }
+        let ranked = self.order / 2;
+        let class = (ranked / TURNS) as u8;
+        Some(Key {
+            value: self.value,
+            class,
+            position: turned(class, (ranked % TURNS) as u32),
+            serial: self.serial,
+            repeat: self.order % 2 == 1,
+        })
+    }
+
+    // Whether its key is before that of another.
+    fn is_before(self, other: Slot) -> bool
+        ensures { earlier_of other self ≡ (if result then self else other) }
+    {
+        self.value < other.value || self.value == other.value && self.order < other.order
+    }
+}
+
+// The number by which keys of one moment are compared.
+fn order_of(key: Key) -> u64
+    ensures { result ≡ order_of key }
+{
+    let ranked = u64::from(key.class) * TURNS + u64::from(turned(key.class, key.position));
+    ranked * 2 + u64::from(key.repeat)
+}
+
+// The turn of a place among those of a class, and the place of a turn: begins in document order,
+// all others against it.
+fn turned(class: u8, place: u32) -> u32
+    ensures { result ≡ turned class place }
+{
+    if class == BEGIN_CLASS {
+        place
+    } else {
+        u32::MAX - place
     }
 }
 
@@ -53,11 +142,10 @@ pub struct DueTree {
 impl Model for DueTree {
     ghost use Rattle.std.specs.Prelude.{List, Option};
     ghost use Rattle.smil_model.specs.declared.happening.Key.{Key as AnyKey};
-    ghost use Rattle.smil_nodes.specs.Slots.{keys_of};
 
     ghost Value = { List (Option AnyKey) };
 
-    ghost view = { λ a. keys_of a.slots };
+    ghost view = { λ a. a.slots };
 }
 
 impl Duplicate for DueTree {
@@ -85,7 +173,7 @@ impl DueTree {
         requires { slot < length self.old }
         ensures { self.new ≡ slice_set self.old slot key }
     {
-        self.slots.set(slot, Slot { key });
+        self.slots.set(slot, Slot::of(key));
     }
 
     /// The least key, which happens first; of equal ones the first. None exactly where no slot has
@@ -93,28 +181,6 @@ impl DueTree {
     pub fn least(&self) -> Option<Key>
         ensures { result ≡ least_key (keys_in self.now) }
     {
-        self.slots.top().key
-    }
-}
-
-/// The earlier of two keys that may each be absent; of two that tie the first. It takes no memory.
-pub fn earlier(first: Option<Key>, second: Option<Key>) -> Option<Key>
-    ensures { result ≡ earlier_of first second }
-{
-    if is_overtaken(first, second) {
-        second
-    } else {
-        first
-    }
-}
-
-// Whether of two keys that may each be absent the second is the earlier one.
-fn is_overtaken(first: Option<Key>, second: Option<Key>) -> bool
-    ensures { earlier_of first second ≡ (if result then second else first) }
-{
-    match (first, second) {
-        (None, _) => true,
-        (_, None) => false,
-        (Some(one), Some(other)) => comes_before(other, one),
+        self.slots.top().key()
     }
 }

@@ -1,10 +1,12 @@
 //! The ends of the time children of each element, kept while the endings of elements change.
 
-ghost use Rattle.std.specs.Prelude.{◌≡◌, ◌<◌, [], Some, true, length, map, slice_get, slice_index_or, IfOk};
+ghost use Rattle.std.specs.Prelude.{◌≡◌, ◌↔◌, ◌<◌, ◌&&◌, [], Some, true, length, map, slice_get, slice_index_or, IfOk, IsTrue};
 ghost use Rattle.smil_model.specs.declared.document.Node.{Node as AnyNode};
 ghost use Rattle.smil_model.specs.document.Document.{elements, node_at};
 ghost use Rattle.smil_model.specs.document.Closure.{has};
 ghost use Rattle.smil_model.specs.document.Defaults.{endsync_of};
+ghost use Rattle.smil_model.specs.document.Dependencies.{has_implicit_duration};
+ghost use Rattle.smil_model.specs.document.Values.{has_endsync};
 ghost use Rattle.smil_model.specs.diary.Lawful.{has_element};
 ghost use Rattle.smil_model.specs.interval.Durations.{container_duration};
 ghost use Rattle.smil_rounds.specs.Round.{AreOfElements};
@@ -181,7 +183,7 @@ fn place_among(serials: &[u32], who: u32, expected: usize) -> usize
 
 // Whether a serial stands at a place.
 fn is_at(serials: &[u32], place: usize, who: u32) -> bool
-    ensures { result ≡ true → slice_get serials.now place ≡ Some who }
+    ensures { IsTrue result ↔ (slice_get serials.now place ≡ Some who) }
 {
     match serials.get(place) {
         Some(serial) => *serial == who,
@@ -207,9 +209,18 @@ fn ends_of(alloc: Global, tree: &Tree, schedule: &Schedule) -> Result<Vec<Ends>,
 // Whether the duration of an element follows from the ends of all its time children.
 fn is_summed(tree: &Tree, who: u32) -> bool
     requires { has_element tree.now.nodes who ≡ true }
+    ensures { (e : AnyNode) → node_at (elements tree.now.nodes) who ≡ Some e
+        → result ≡ (has_endsync e.kind && has_implicit_duration e) }
 {
     tree.valid();
-    matches!(tree.kind(who), Kind::Par | Kind::Excl) && takes_implicit(tree.attrs(who))
+    has_endsync(tree.kind(who)) && takes_implicit(tree.attrs(who))
+}
+
+// Whether the end of an element may follow from those of all its time children.
+fn has_endsync(kind: Kind) -> bool
+    ensures { result ≡ has_endsync kind }
+{
+    matches!(kind, Kind::Par | Kind::Excl)
 }
 
 // The ends of the time children of an element, none known.

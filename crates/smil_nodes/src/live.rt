@@ -1,6 +1,6 @@
 //! The live table: only what may have changed is evaluated after a happening.
 
-ghost use Rattle.std.specs.Prelude.{◌≡◌, ◌↔◌, ◌<◌, ◌≤◌, ◌+◌, ◌-◌, ℕ, Some, true, false, drop, length, slice_get, OnOk, IfOk, IfSome};
+ghost use Rattle.std.specs.Prelude.{◌≡◌, ◌↔◌, ◌<◌, ◌≤◌, ◌+◌, ◌-◌, ℕ, Some, true, false, drop, length, slice_get, OnOk, IfOk, IfSome, IsTrue};
 ghost use Rattle.smil_model.specs.declared.document.Node.{Node as AnyNode};
 ghost use Rattle.smil_model.specs.document.Document.{elements, node_at};
 ghost use Rattle.smil_model.specs.document.Closure.{has};
@@ -305,8 +305,8 @@ impl LiveTable {
     // Whether a row stands at an index, and its element has this ending.
     fn is_there(&self, index: usize, row: &CurrentRow, ending: Ending) -> bool
         requires { index < length self.now.schedule }
-        ensures { result ≡ true → (slice_get self.now.schedule index ≡ Some row.now)
-            × (ending ≡ ending_in self.now.endings index) }
+        ensures { IsTrue result ↔ ((slice_get self.now.schedule index ≡ Some row.now)
+            × (ending ≡ ending_in self.now.endings index)) }
     {
         is_same_row(self.schedule.row(index), row)
             && is_same_ending(self.endings.ending(index), ending)

@@ -6,9 +6,10 @@ ghost use Rattle.smil_model.specs.document.Document.{elements};
 ghost use Rattle.smil_laws.specs.Near.{IsIntervalNear};
 ghost use Rattle.smil_rounds.specs.declared.current_rows.CurrentRow.{CurrentRow as AnyRow};
 ghost use Rattle.smil_rounds.specs.Rows.{empty_row};
-ghost use Rattle.smil_nodes.specs.Schedule.{ComesFirst, key_of as own_key, row_put, slot_of};
+ghost use Rattle.smil_nodes.specs.Schedule.{ComesFirst, row_put, slot_of};
 
-use super::due_tree::{DueTree, earlier};
+use super::due_tree::DueTree;
+use smil_due::comes_before;
 use smil_element::{DueChange, DueChanges, Intervals};
 use smil_model::{Duplicate, Interval, Key};
 use smil_rounds::current_rows::{CurrentRow, CurrentRows};
@@ -130,15 +131,10 @@ impl Schedule {
 fn first_key(comings: &DueChanges) -> Option<Key>
     ensures { result ≡ slot_of comings.now }
 {
-    earlier(key_of(&comings.moved), key_of(&comings.repeat))
-}
-
-// The key of what comes, if something does.
-fn key_of(coming: &Option<DueChange>) -> Option<Key>
-    ensures { result ≡ own_key coming.now }
-{
-    match coming {
-        Some(coming) => Some(coming.key),
-        None => None,
+    match (&comings.moved, &comings.repeat) {
+        (Some(moved), Some(repeat)) if comes_before(repeat.key, moved.key) => Some(repeat.key),
+        (Some(moved), _) => Some(moved.key),
+        (None, Some(repeat)) => Some(repeat.key),
+        (None, None) => None,
     }
 }

@@ -1,6 +1,6 @@
 //! Elements as they were before they changed, by which a table goes back to its mark.
 
-ghost use Rattle.std.specs.Prelude.{◌≡◌, [], ◌∷◌, ◌++◌, true, false, OnOk, IfOk, IfSome, MatchOption, slice_index_or, slice_set};
+ghost use Rattle.std.specs.Prelude.{◌≡◌, [], ◌∷◌, ◌++◌, ◌<◌, ℕ, true, false, OnOk, OnErr, IfOk, IfSome, MatchOption, length, slice_index_or, slice_set};
 ghost use Rattle.smil_laws.specs.Near.{IsIntervalNear};
 ghost use Rattle.smil_nodes.specs.Undo.{MayGrow, has_note, note_of};
 
@@ -26,8 +26,7 @@ pub struct Note {
 #[derive(Drop)]
 pub struct Undo {
     notes: Vec<Note>,
-    /// By the index of its row, whether an element has one of the notes, so that no further one of
-    /// it is needed.
+    /// By the index of its row, whether an element has one of the notes; it has one at most.
     marks: Vec<bool>,
 }
 
@@ -68,10 +67,13 @@ impl Undo {
         requires { IfSome row.now.interval IsIntervalNear }
         ensures grown { MayGrow self.old (note_of index row.now endings.now) self.new }
         ensures noted { OnOk result (has_note self.new index ≡ true) }
+        ensures once { has_note self.old index ≡ true → self.new ≡ self.old }
+        ensures err { OnErr result (self.new ≡ self.old) }
     {
         if mark_at(&self.marks, index) {
             return Ok(());
         }
+        make_room(&mut self.marks, index)?;
         self.notes.push(Note {
             index,
             interval: row.interval,
@@ -111,9 +113,21 @@ fn mark_at(marks: &[bool], index: usize) -> bool
     }
 }
 
+// Makes room for the mark at an index; no mark is set by it.
+fn make_room(marks: &mut Vec<bool>, index: usize) -> Result<(), AllocError>
+    ensures room { OnOk result (index < length marks.new.items) }
+    ensures same { (other : ℕ) → slice_index_or marks.new.items other false
+        ≡ slice_index_or marks.old.items other false }
+{
+    while marks.len() <= index {
+        marks.push(false)?;
+    }
+    Ok(())
+}
+
 // Puts a mark at an index; where there is none nothing changes.
-fn put_mark(marks: &mut [bool], index: usize, mark: bool)
-    ensures { marks.new ≡ slice_set marks.old index mark }
+fn put_mark(marks: &mut Vec<bool>, index: usize, mark: bool)
+    ensures { marks.new.items ≡ slice_set marks.old.items index mark }
 {
     if index < marks.len() {
         marks[index] = mark;

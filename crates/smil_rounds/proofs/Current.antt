@@ -4,7 +4,8 @@ use Rattle.std.specs.Prelude.{◌==◌, ◌||◌, cond, is_some, slice_get, Resu
 use Rattle.std.specs.List.{list_any}
 use Rattle.std.specs.FinSet as set
 use Rattle.std.proofs.lemmas.Bool.{or_left, or_right, eq-eqb, eqb-true}
-use Rattle.std.proofs.lemmas.List.Sorted.{list_any-IsPermutation}
+use Rattle.std.proofs.lemmas.List.{length-map}
+use Rattle.std.proofs.lemmas.List.Sorted.{length_permutation, list_any-IsPermutation}
 use Rattle.smil_model.specs.declared.interval.Interval.{Interval}
 use Rattle.smil_model.specs.declared.document.Node.{Node}
 use Rattle.smil_model.specs.document.Document.{elements, node_at, serials}
@@ -176,6 +177,11 @@ pub ordered_element : (nodes : List Node) (order : List ℕ) (k : ℕ) → IsGra
 ordered_element nodes order k is lt =
     node_of_member (get_or order k 0) (elements nodes)
     (list_any-IsPermutation (λ y. y == get_or order k 0) (serials (elements nodes)) order is.all ∙ member_at order k lt)
+
+-- and there are as many
+pub order_length : (nodes : List Node) (order : List ℕ) → IsGraphOrder nodes order → length order ≡ length (elements nodes)
+order_length nodes order is =
+    length_permutation (serials (elements nodes)) order is.all ∙ length-map (elements nodes) (λ (n : Node). n.serial)
 
 pub none_taken : (h : History) (now : ℤ) (order : List ℕ) (rows : List CurrentRow) → serials_in rows ≡ serials (elements h.nodes) → AreRowsEvaluated h now order 0 rows
 none_taken h now order rows same = record { of_elements = same; rows_are = λ k place e row less. absurd (omega (arith, less)) }

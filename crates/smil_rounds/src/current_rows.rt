@@ -8,13 +8,14 @@ ghost use Rattle.smil_model.specs.document.Dependencies.{has_implicit_duration};
 ghost use Rattle.smil_model.specs.diary.Lawful.{has_element};
 ghost use Rattle.smil_laws.specs.Near.{IsIntervalNear};
 ghost use Rattle.smil_past.specs.Past.{IsPresent, history_of};
+ghost use Rattle.smil_element.specs.Subject.{IsFound};
 ghost use Rattle.smil_rounds.specs.declared.current_rows.CurrentRow.{CurrentRow as AnyRow};
 ghost use Rattle.smil_rounds.specs.Round.{IsRowOf};
 ghost use Rattle.smil_rounds.specs.Rows.{IsChosen, empty_row, row_without};
 
 use smil_element::{
-    Container, Containers, DueChange, DueChanges, Intervals, Present, Room, comings_of,
-    evaluation_of, is_same_coming, walked_duration,
+    Container, Containers, DueChange, DueChanges, Intervals, Present, Room, Subject, comings_of,
+    evaluation_of, is_same_coming, subject_of, walked_duration,
 };
 use smil_instances::elements::elements;
 use smil_interval::{Steps, is_same_interval};
@@ -147,7 +148,7 @@ impl CurrentRows {
             → IsChosen key row.comings.moved row.comings.repeat result }
     {
         let row = self.rows.get(key.position as usize)?;
-        chosen(key, row.comings)
+        chosen(key, &row.comings)
     }
 }
 
@@ -179,14 +180,47 @@ pub fn row_of<J: Containers, L: Ledger>(
     ensures most { steps.new ≤ steps.old + 1 }
     ensures counted { steps.old ≤ steps.new }
 {
-    let present = &element.present;
-    present.past.possible();
-    let made = evaluation_of(present, intervals, room, steps)?;
-    let comings = comings_of(present, element.index as u32, &made);
+    row_by(
+        &subject_of(&element.present),
+        element.index,
+        intervals,
+        room,
+        steps,
+    )
+}
+
+// The row of the element at an index, given the intervals of the others; one evaluation is counted.
+fn row_by<J: Containers, L: Ledger>(
+    subject: &Subject<'_>,
+    index: usize,
+    intervals: &J,
+    room: &mut Room,
+    steps: &mut Steps<L>,
+) -> Result<CurrentRow, AllocError>
+    requires found { IsFound subject.now }
+    requires index { slice_get (elements subject.now.present.past.now.document.nodes) index
+        ≡ node_at (elements subject.now.present.past.now.document.nodes)
+        subject.now.present.who }
+    requires known { (e : AnyNode)
+        → node_at (elements subject.now.present.past.now.document.nodes) subject.now.present.who
+        ≡ Some e → has_implicit_duration e ≡ true
+        → J.knows_ends intervals.now (history_of subject.now.present.past.now)
+        subject.now.present.who }
+    ensures row { (e : AnyNode)
+        → node_at (elements subject.now.present.past.now.document.nodes) subject.now.present.who
+        ≡ Some e → IfOk result (IsRowOf (history_of subject.now.present.past.now)
+        (J.given intervals.now) subject.now.present.moment index e) }
+    ensures near { IfOk result (λ row. IfSome row.interval IsIntervalNear) }
+    ensures steps { OnOk result (steps.new ≡ steps.old + 1) }
+    ensures most { steps.new ≤ steps.old + 1 }
+    ensures counted { steps.old ≤ steps.new }
+{
+    subject.present.past.possible();
+    let made = evaluation_of(subject, intervals, room, steps)?;
     Ok(CurrentRow {
-        serial: present.who,
+        serial: subject.present.who,
         interval: made.interval,
-        comings,
+        comings: comings_of(subject, index as u32, &made),
     })
 }
 
@@ -201,8 +235,8 @@ pub fn is_same_row(one: &CurrentRow, other: &CurrentRow) -> bool
 }
 
 // Of what comes of an element the begin or end where that has this key, else the repeat.
-fn chosen(key: Key, comings: DueChanges) -> Option<DueChange>
-    ensures { IsChosen key comings.moved comings.repeat result }
+fn chosen(key: Key, comings: &DueChanges) -> Option<DueChange>
+    ensures { IsChosen key comings.now.moved comings.now.repeat result }
 {
     match comings.moved {
         Some(moved) if moved.key == key => Some(moved),

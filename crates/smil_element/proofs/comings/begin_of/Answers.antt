@@ -1,4 +1,4 @@
-use Rattle.std.proofs.Common.{◌≡◌, ◌∙◌, ap, arith, ℤ, [], ◌∷◌}
+use Rattle.std.proofs.Common.{◌≡◌, ◌∙◌, ap, arith, [], ◌∷◌}
 use Rattle.std.proofs.lemmas.Int.{ints}
 use mir.Syntax.{w64}
 use mir.Val.{to_z, of_z}
@@ -6,19 +6,16 @@ use Rattle.smil_model.specs.diary.Clocks.{to_document}
 use Rattle.smil_model.specs.happening.Keys.{begins}
 use Rattle.smil_instances.proofs.Sensitive.{serial_is}
 use Rattle.smil_past.specs.Past.{history_of}
-use Rattle.smil_element.proofs.Latest.{present_fits}
-use Rattle.smil_element.proofs.Moments.{told_now}
 use Rattle.smil_element.proofs.Keys.{keyed, timed}
 use Rattle.smil_element.proofs.comings.begin_of.Goals as goal
 
 pub returns : goal.returns
 returns c = λ e at.
-    let past = c.args.present.now.past.now in
-    let who = c.args.present.now.who in
+    let past = c.args.subject.now.present.past.now in
+    let who = c.args.subject.now.present.who in
     let h = history_of past in
     let begin_is : to_z w64 (of_z w64 c.args.interval.begin) ≡ c.args.interval.begin = omega (arith, ints) in
     let value_is : to_z w64 (of_z w64 c.to_document.result) ≡ c.to_document.result = omega (arith, ints) in
-    let told = told_now past c.args.present.now.moment (present_fits past c.args.present.now.moment c.requires.moment) c.requires.moment (λ (m : ℤ). c.to_document.result ≡ to_document h who (to_z w64 (of_z w64 c.args.interval.begin)) m) (c.to_document.ensures h c.clocks-clocks.ensures) in
     ap (λ b. keyed (to_z w64 (of_z w64 c.to_document.result)) 2 c.args.place who (begins b) ∷ []) begin_is
-    ∙ timed h who e (serial_is past.document.nodes who e at) (to_z w64 (of_z w64 c.to_document.result)) c.args.interval.begin c.args.present.now.moment 2 c.args.place (begins c.args.interval.begin)
-    (value_is ∙ told ∙ ap (λ v. to_document h who v c.args.present.now.moment) begin_is)
+    ∙ timed h who e (serial_is past.document.nodes who e at) (to_z w64 (of_z w64 c.to_document.result)) c.args.interval.begin c.args.subject.now.present.moment 2 c.args.place (begins c.args.interval.begin)
+    (value_is ∙ c.to_document.ensures ∙ ap (λ v. to_document h who v c.args.subject.now.present.moment) begin_is)

@@ -1,8 +1,13 @@
-use Rattle.smil_past.specs.Past.{history_of}
-use Rattle.smil_element.proofs.Moments.{reads}
+use Rattle.std.proofs.Common.{ap, arith}
+use Rattle.std.proofs.lemmas.Int.{ints}
+use Rattle.smil_past.specs.declared.plays.facts.PlayFacts.{PlayFacts}
 use Rattle.smil_element.proofs.comings.last_play.Goals as goal
 
+pub returns-clause-first : goal.returns-clause-first
+returns-clause-first c = omega (arith, ints, ap (λ (r : PlayFacts). r.first) c.requires.played_is)
+
+pub returns-clause-start : goal.returns-clause-start
+returns-clause-start c = omega (arith, ints, ap (λ (r : PlayFacts). r.start) c.requires.played_is)
+
 pub returns-clause-iteration : goal.returns-clause-iteration
-returns-clause-iteration c =
-    c.iteration.ensures (history_of c.args.past.now)
-    (reads c.args.past.now c.book.result.now c.args.who c.parent_of.result c.book.ensures c.parent_of.ensures.parent)
+returns-clause-iteration c = ap (λ (r : PlayFacts). r.iteration) c.requires.played_is

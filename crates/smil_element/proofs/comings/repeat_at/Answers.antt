@@ -17,20 +17,20 @@ use Rattle.smil_element.proofs.comings.repeat_at.Goals as goal
 
 pub returns-in_default : goal.returns-in_default
 returns-in_default c = λ e at.
-    let h = history_of c.args.present.now.past.now in
-    let start_is : to_z w64 (of_z w64 c.last_play-play.result.start) ≡ iteration_start h c.args.present.now.who = omega (arith, ints, c.last_play-play.ensures.start) in
-    no_number h c.args.present.now.moment c.args.place e c.args.simple c.later.result c.in_default.not-At
-    ∙ ap (coming_repeat_at h c.args.present.now.moment c.args.place e c.args.simple) (c.later.ensures ∙ ap (later_time c.args.simple) start_is)
+    let h = history_of c.args.subject.now.present.past.now in
+    let start_is : to_z w64 (of_z w64 c.last_play-play.result.start) ≡ iteration_start h c.args.subject.now.present.who = omega (arith, ints, c.last_play-play.ensures.start) in
+    no_number h c.args.subject.now.present.moment c.args.place e c.args.simple c.later.result c.in_default.not-At
+    ∙ ap (coming_repeat_at h c.args.subject.now.present.moment c.args.place e c.args.simple) (c.later.ensures ∙ ap (later_time c.args.simple) start_is)
 
 pub returns-then-not-goes_on : goal.returns-then-not-goes_on
 returns-then-not-goes_on c = λ e at.
-    let h = history_of c.args.present.now.past.now in
+    let h = history_of c.args.subject.now.present.past.now in
     let over_is : to_z w64 (of_z w64 c.in-At.over) ≡ c.in-At.over = omega (arith, ints) in
-    let start_is : to_z w64 (of_z w64 c.last_play-play.result.start) ≡ iteration_start h c.args.present.now.who = omega (arith, ints, c.last_play-play.ensures.start) in
-    stops h c.args.present.now.who e (serial_is c.args.present.now.past.now.document.nodes c.args.present.now.who e at) c.args.simple c.bounds_of.result c.last_play-play.result (c.bounds_of.ensures e at)
+    let start_is : to_z w64 (of_z w64 c.last_play-play.result.start) ≡ iteration_start h c.args.subject.now.present.who = omega (arith, ints, c.last_play-play.ensures.start) in
+    stops h c.args.subject.now.present.who e (serial_is c.args.subject.now.present.past.now.document.nodes c.args.subject.now.present.who e at) c.args.simple c.bounds_of-bounds.result c.last_play-play.result (c.bounds_of-bounds.ensures e at)
     c.last_play-play.ensures.first c.last_play-play.ensures.start c.last_play-play.ensures.iteration
-    c.args.present.now.moment c.args.place c.later.result c.goes_on.result (to_z w64 (of_z w64 c.in-At.over)) c.in-At.over c.in-At.is over_is c.goes_on.ensures c.if-not-goes_on.true
-    ∙ ap (coming_repeat_at h c.args.present.now.moment c.args.place e c.args.simple) (c.later.ensures ∙ ap (later_time c.args.simple) start_is)
+    c.args.subject.now.present.moment c.args.place c.later.result c.goes_on.result (to_z w64 (of_z w64 c.in-At.over)) c.in-At.over c.in-At.is over_is c.goes_on.ensures c.if-not-goes_on.true
+    ∙ ap (coming_repeat_at h c.args.subject.now.present.moment c.args.place e c.args.simple) (c.later.ensures ∙ ap (later_time c.args.simple) start_is)
 
 pub moment_of-requires-clause-near : goal.moment_of-requires-clause-near
 moment_of-requires-clause-near c =
@@ -40,13 +40,13 @@ moment_of-requires-clause-near c =
 
 pub returns : goal.returns
 returns c = λ e at.
-    let past = c.args.present.now.past.now in
+    let past = c.args.subject.now.present.past.now in
     let h = history_of past in
     let over_is : to_z w64 (of_z w64 c.in-At.over) ≡ c.in-At.over = omega (arith, ints) in
-    let start_is : to_z w64 (of_z w64 c.last_play-play.result.start) ≡ iteration_start h c.args.present.now.who = omega (arith, ints, c.last_play-play.ensures.start) in
+    let start_is : to_z w64 (of_z w64 c.last_play-play.result.start) ≡ iteration_start h c.args.subject.now.present.who = omega (arith, ints, c.last_play-play.ensures.start) in
     let value_is : to_z w64 (of_z w64 c.moment_of.result) ≡ c.moment_of.result = omega (arith, ints) in
-    follows h c.args.present.now.who e (serial_is past.document.nodes c.args.present.now.who e at) c.args.simple c.bounds_of.result c.last_play-play.result (c.bounds_of.ensures e at)
+    follows h c.args.subject.now.present.who e (serial_is past.document.nodes c.args.subject.now.present.who e at) c.args.simple c.bounds_of-bounds.result c.last_play-play.result (c.bounds_of-bounds.ensures e at)
     c.last_play-play.ensures.first c.last_play-play.ensures.start c.last_play-play.ensures.iteration
-    c.args.present.now.moment c.args.place c.later.result c.goes_on.result (to_z w64 (of_z w64 c.in-At.over)) c.in-At.over (to_z w64 (of_z w64 c.moment_of.result)) c.in-At.is over_is c.goes_on.ensures c.if-not-goes_on.false
-    (value_is ∙ c.moment_of.ensures ∙ ap (λ v. c.args.present.now.moment +ℤ (v -ℤ run h c.args.present.now.who c.args.present.now.moment)) over_is)
-    ∙ ap (coming_repeat_at h c.args.present.now.moment c.args.place e c.args.simple) (c.later.ensures ∙ ap (later_time c.args.simple) start_is)
+    c.args.subject.now.present.moment c.args.place c.later.result c.goes_on.result (to_z w64 (of_z w64 c.in-At.over)) c.in-At.over (to_z w64 (of_z w64 c.moment_of.result)) c.in-At.is over_is c.goes_on.ensures c.if-not-goes_on.false
+    (value_is ∙ c.moment_of.ensures ∙ ap (λ v. c.args.subject.now.present.moment +ℤ (v -ℤ run h c.args.subject.now.present.who c.args.subject.now.present.moment)) over_is)
+    ∙ ap (coming_repeat_at h c.args.subject.now.present.moment c.args.place e c.args.simple) (c.later.ensures ∙ ap (later_time c.args.simple) start_is)

@@ -6,9 +6,9 @@ use Rattle.smil_element.proofs.comings.repeat_of.Goals as goal
 
 pub returns-then-may_repeat : goal.returns-then-may_repeat
 returns-then-may_repeat c = λ e at.
-    repeat_is (history_of c.args.present.now.past.now) c.args.present.now.who e (serial_is c.args.present.now.past.now.document.nodes c.args.present.now.who e at) c.args.simple c.args.present.now.moment c.args.place true _ (sym c.if-may_repeat.true ∙ c.may_repeat.ensures e at)
+    repeat_is (history_of c.args.subject.now.present.past.now) c.args.subject.now.present.who e (serial_is c.args.subject.now.present.past.now.document.nodes c.args.subject.now.present.who e at) c.args.simple c.args.subject.now.present.moment c.args.place true _ (sym c.if-may_repeat.true ∙ c.may_repeat.ensures e at)
     (c.repeat_at.ensures e at)
 
 pub returns-else-may_repeat : goal.returns-else-may_repeat
 returns-else-may_repeat c = λ e at.
-    repeat_is (history_of c.args.present.now.past.now) c.args.present.now.who e (serial_is c.args.present.now.past.now.document.nodes c.args.present.now.who e at) c.args.simple c.args.present.now.moment c.args.place false _ (sym c.if-may_repeat.false ∙ c.may_repeat.ensures e at) refl
+    repeat_is (history_of c.args.subject.now.present.past.now) c.args.subject.now.present.who e (serial_is c.args.subject.now.present.past.now.document.nodes c.args.subject.now.present.who e at) c.args.simple c.args.subject.now.present.moment c.args.place false _ (sym c.if-may_repeat.false ∙ c.may_repeat.ensures e at) refl

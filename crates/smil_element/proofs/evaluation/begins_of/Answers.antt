@@ -8,6 +8,6 @@ use Rattle.smil_element.proofs.evaluation.begins_of.Goals as goal
 
 pub returns-then-is_settled : goal.returns-then-is_settled
 returns-then-is_settled g c = λ e here.
-    let h : History = history_of c.args.reading.now.past.now in
+    let h : History = history_of c.args.reading.now.subject.now.present.past.now in
     let none : syncs_of h.nodes Begin e ≡ [] = none_there (syncs_of h.nodes Begin e) (sym (c.is_settled.ensures e here) ∙ c.if-is_settled.true) in
-    c.begins.ensures.model h c.args.reading.now.moment e (record { rows = c.instances.ensures.rows; known = here }) ∙ begins_settled h c.args.reading.now.moment e (g.J.Intervals.given c.args.reading.now.intervals.now) none
+    c.begins.ensures.model h c.args.reading.now.subject.now.present.moment e (record { rows = c.instances.ensures.rows; known = here }) ∙ begins_settled h c.args.reading.now.subject.now.present.moment e (g.J.Intervals.given c.args.reading.now.intervals.now) none

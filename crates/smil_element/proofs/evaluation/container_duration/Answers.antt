@@ -21,27 +21,27 @@ use Rattle.smil_element.proofs.evaluation.container_duration.Goals as goal
 
 pub returns-then-is_none : goal.returns-then-is_none
 returns-then-is_none g c = λ e here.
-    let h : History = history_of c.args.past.now in
+    let h : History = history_of c.args.subject.now.present.past.now in
     idle_container h (g.J.Intervals.given c.args.intervals.now) e
-    (ap (is_active h.diary) (stands (elements h.nodes) c.args.who e here).serial
-    ∙ sym (begun_is h c.args.past.now.document.next c.possible.ensures.valid.numbered c.args.who)
-    ∙ sym (ap (λ (p : PlayFacts). is_some p.begun) c.played_of-played.ensures)
+    (ap (is_active h.diary) (stands (elements h.nodes) c.args.subject.now.present.who e here).serial
+    ∙ sym (begun_is h c.args.subject.now.present.past.now.document.next c.possible.ensures.valid.numbered c.args.subject.now.present.who)
+    ∙ sym (ap (λ (p : PlayFacts). is_some p.begun) c.requires.found.played_is)
     ∙ c.if-is_none.ensures)
 
 pub returns : goal.returns
 returns g c = λ e here.
-    let h : History = history_of c.args.past.now in
+    let h : History = history_of c.args.subject.now.present.past.now in
     let given : ℕ → Option Interval = g.J.Intervals.given c.args.intervals.now in
-    let start = c.played_of-played.result.now.start in
+    let start = c.args.subject.now.played.now.start in
     let fits : FitsSigned w64 start = search rules in
-    let serial : e.serial ≡ c.args.who = (stands (elements h.nodes) c.args.who e here).serial in
+    let serial : e.serial ≡ c.args.subject.now.present.who = (stands (elements h.nodes) c.args.subject.now.present.who e here).serial in
     let begun : to_z w64 (of_z w64 start) ≡ iteration_start h e.serial =
-    to_z-of_z w64 start fits ∙ ap (λ (p : PlayFacts). p.start) c.played_of-played.ensures ∙ ap (iteration_start h) (sym serial) in
-    let whole : container_duration e.kind (endsync_of e.attrs) (to_z w64 (of_z w64 start)) (map (child_end h given e) (time_children h.nodes c.args.who)) ≡ container_implicit h given e =
+    to_z-of_z w64 start fits ∙ ap (λ (p : PlayFacts). p.start) c.requires.found.played_is ∙ ap (iteration_start h) (sym serial) in
+    let whole : container_duration e.kind (endsync_of e.attrs) (to_z w64 (of_z w64 start)) (map (child_end h given e) (time_children h.nodes c.args.subject.now.present.who)) ≡ container_implicit h given e =
     (λ i. container_duration e.kind (endsync_of e.attrs) (begun i) (map (child_end h given e) (time_children h.nodes (sym serial i))))
     ∙ active_container h given e
     (ap (is_active h.diary) serial
-    ∙ sym (begun_is h c.args.past.now.document.next c.possible.ensures.valid.numbered c.args.who)
-    ∙ sym (ap (λ (p : PlayFacts). is_some p.begun) c.played_of-played.ensures)
+    ∙ sym (begun_is h c.args.subject.now.present.past.now.document.next c.possible.ensures.valid.numbered c.args.subject.now.present.who)
+    ∙ sym (ap (λ (p : PlayFacts). is_some p.begun) c.requires.found.played_is)
     ∙ c.if-is_none.ensures) in
     subst (λ (t : Time). IfOk c.implicit.result (λ made. made ≡ t)) whole (c.implicit.ensures e here)

@@ -1,7 +1,5 @@
-use Rattle.std.proofs.Common.{◌≡◌, ◌∙◌, sym, ap, subst, ℕ, ℤ, List}
+use Rattle.std.proofs.Common.{◌≡◌, ◌∙◌, sym, subst, ℕ, ℤ, List}
 use Rattle.std.specs.Prelude.{Option, int_le}
-use Rattle.std.proofs.lemmas.Int.{to_z-of_z}
-use Rattle.std.proofs.Common.{w64}
 use Rattle.smil_model.specs.declared.times.Time.{Time}
 use Rattle.smil_model.specs.declared.interval.Interval.{Interval}
 use Rattle.smil_model.specs.Times.{time_le}
@@ -12,41 +10,39 @@ use Rattle.smil_model.specs.interval.Intervals.{interval_of}
 use Rattle.smil_model.specs.Rising.{IsRising}
 use Rattle.smil_past.specs.Past.{history_of}
 use Rattle.smil_element.proofs.Awaited.{begins_rise, ends_rise}
-use Rattle.smil_element.proofs.Latest.{present_fits}
 use Rattle.smil_instances.proofs.Targets.{element_of}
 use Rattle.smil_element.proofs.evaluation.evaluation_of.Goals as goal
 
 pub evaluate-requires-clause-begins_rise : goal.evaluate-requires-clause-begins_rise
 evaluate-requires-clause-begins_rise g c =
-    let h : History = history_of c.args.present.now.past.now in
+    let h : History = history_of c.args.subject.now.present.past.now in
     let given : ℕ → Option Interval = g.J.Intervals.given c.args.intervals.now in
-    let now = c.args.present.now.moment in
-    let found = element_of h.nodes c.args.present.now.who c.requires.element in
+    let now = c.args.subject.now.present.moment in
+    let found = element_of h.nodes c.args.subject.now.present.who c.requires.found.element in
     let begins : c.in_ok-begins.begins.now ≡ begin_times h given now found.0 =
-    c.in_ok-begins.ensures found.0 found.1 ∙ ap (λ m. begin_times h given m found.0) (to_z-of_z w64 now (present_fits c.args.present.now.past.now now c.requires.moment)) in
+    c.in_ok-begins.ensures found.0 found.1 in
     subst (λ (xs : List ℤ). IsRising int_le xs) (sym begins) (begins_rise h given now found.0)
 
 pub evaluate-requires-clause-ends_rise : goal.evaluate-requires-clause-ends_rise
 evaluate-requires-clause-ends_rise g c =
-    let h : History = history_of c.args.present.now.past.now in
+    let h : History = history_of c.args.subject.now.present.past.now in
     let given : ℕ → Option Interval = g.J.Intervals.given c.args.intervals.now in
-    let now = c.args.present.now.moment in
-    let found = element_of h.nodes c.args.present.now.who c.requires.element in
+    let now = c.args.subject.now.present.moment in
+    let found = element_of h.nodes c.args.subject.now.present.who c.requires.found.element in
     let ends : c.in_ok-ends.ends.now ≡ end_times h given now found.0 =
-    c.in_ok-ends.ensures found.0 found.1 ∙ ap (λ m. end_times h given m found.0) (to_z-of_z w64 now (present_fits c.args.present.now.past.now now c.requires.moment)) in
+    c.in_ok-ends.ensures found.0 found.1 in
     subst (λ (xs : List Time). IsRising time_le xs) (sym ends) (ends_rise h given now found.0)
 
 pub returns-clause-made : goal.returns-clause-made
 returns-clause-made g c = λ e here.
-    let h : History = history_of c.args.present.now.past.now in
+    let h : History = history_of c.args.subject.now.present.past.now in
     let given : ℕ → Option Interval = g.J.Intervals.given c.args.intervals.now in
-    let now = c.args.present.now.moment in
-    let whole = to_z-of_z w64 now (present_fits c.args.present.now.past.now now c.requires.moment) in
+    let now = c.args.subject.now.present.moment in
     let begins : c.in_ok-begins.begins.now ≡ begin_times h given now e =
-    c.in_ok-begins.ensures e here ∙ ap (λ m. begin_times h given m e) whole in
+    c.in_ok-begins.ensures e here in
     let ends : c.in_ok-ends.ends.now ≡ end_times h given now e =
-    c.in_ok-ends.ensures e here ∙ ap (λ m. end_times h given m e) whole in
-    let facts : c.facts_of-facts.result ≡ facts_of h given now e = c.facts_of-facts.ensures e given here (c.in_ok-simple.ensures e here) in
+    c.in_ok-ends.ensures e here in
+    let facts : c.facts_of.result ≡ facts_of h given now e = c.facts_of.ensures e given here (c.in_ok-simple.ensures e here) in
     record {
       interval = c.evaluate.ensures.interval ∙ (λ i. interval_of (facts i) (begins i) (ends i));
       simple = c.in_ok-simple.ensures e here;

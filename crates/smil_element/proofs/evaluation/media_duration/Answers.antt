@@ -10,7 +10,7 @@ use Rattle.smil_element.proofs.evaluation.media_duration.Goals as goal
 
 pub returns-in-None : goal.returns-in-None
 returns-in-None c = λ e here intervals container.
-    let h : History = history_of c.args.past.now in
-    ap (λ (p : PlayFacts). p.length) c.played_of.ensures
-    ∙ ap (media_length h) (sym (stands (elements h.nodes) c.args.who e here).serial)
+    let h : History = history_of c.args.subject.now.present.past.now in
+    ap (λ (p : PlayFacts). p.length) c.requires.played_is
+    ∙ ap (media_length h) (sym (stands (elements h.nodes) c.args.subject.now.present.who e here).serial)
     ∙ media_told h intervals e c.args.kind container c.in-None.ensures.some

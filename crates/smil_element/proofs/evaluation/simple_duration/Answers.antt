@@ -8,26 +8,27 @@ use Rattle.smil_model.specs.interval.Current.{implicit_duration}
 use Rattle.smil_instances.proofs.Targets.{element_of}
 use Rattle.smil_past.specs.declared.makeup.Makeup.{Makeup}
 use Rattle.smil_past.specs.Past.{history_of}
+use Rattle.smil_past.specs.Syncs.{SyncRow}
 use Rattle.smil_past.proofs.Makeups.{simple_implicit, simple_stated, takes}
 use Rattle.smil_element.proofs.evaluation.simple_duration.Goals as goal
 
 pub implicit_duration-requires-clause-known : goal.implicit_duration-requires-clause-known
 implicit_duration-requires-clause-known g c =
-    let found = element_of c.args.past.now.document.nodes c.args.who c.requires.element in
+    let found = element_of c.args.subject.now.present.past.now.document.nodes c.args.subject.now.present.who c.requires.found.element in
     c.requires.known found.0 found.1
-    (takes found.0 (sym c.in-None.is ∙ ap (λ (m : Makeup). m.simple) (c.makeup.ensures found.0 found.1)))
+    (takes found.0 (sym c.in-None.is ∙ ap (λ (m : Makeup). m.simple) (c.makeup.ensures ∙ ap (λ (r : SyncRow). r.makeup) (c.requires.found.row_is found.0 found.1))))
 
 pub returns-in-Some : goal.returns-in-Some
 returns-in-Some g c = λ e here.
-    let h : History = history_of c.args.past.now in
+    let h : History = history_of c.args.subject.now.present.past.now in
     let given : ℕ → Option Interval = g.J.Intervals.given c.args.intervals.now in
     simple_stated e (implicit_duration h given e) c.in-Some.simple
-    (sym c.in-Some.is ∙ ap (λ (m : Makeup). m.simple) (c.makeup.ensures e here))
+    (sym c.in-Some.is ∙ ap (λ (m : Makeup). m.simple) (c.makeup.ensures ∙ ap (λ (r : SyncRow). r.makeup) (c.requires.found.row_is e here)))
 
 pub returns-in-None : goal.returns-in-None
 returns-in-None g c = λ e here.
-    let h : History = history_of c.args.past.now in
+    let h : History = history_of c.args.subject.now.present.past.now in
     let given : ℕ → Option Interval = g.J.Intervals.given c.args.intervals.now in
     subst (λ (t : Time). IfOk c.implicit_duration.result (λ simple. simple ≡ t))
-    (simple_implicit e (implicit_duration h given e) (sym c.in-None.is ∙ ap (λ (m : Makeup). m.simple) (c.makeup.ensures e here)))
+    (simple_implicit e (implicit_duration h given e) (sym c.in-None.is ∙ ap (λ (m : Makeup). m.simple) (c.makeup.ensures ∙ ap (λ (r : SyncRow). r.makeup) (c.requires.found.row_is e here))))
     (c.implicit_duration.ensures e here)

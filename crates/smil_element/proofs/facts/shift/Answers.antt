@@ -1,15 +1,19 @@
-use Rattle.std.proofs.Common.{◌≡◌, ℤ, arith}
+use Rattle.std.proofs.Common.{◌∙◌, sym, ap, arith, Some, None, refl}
+use Rattle.std.specs.Prelude.{cond, ◌-ℤ◌}
 use Rattle.std.proofs.lemmas.Int.{ints}
 use Rattle.smil_model.specs.diary.Clocks.{outer, run}
+use Rattle.smil_past.specs.declared.plays.facts.PlayFacts.{PlayFacts}
 use Rattle.smil_past.specs.Past.{history_of}
-use Rattle.smil_element.proofs.Latest.{present_fits}
-use Rattle.smil_element.proofs.Moments.{shifted, told_now}
+use Rattle.smil_element.proofs.Moments.{shifted}
 use Rattle.smil_element.proofs.facts.shift.Goals as goal
+
+pub returns-then-subject : goal.returns-then-subject
+returns-then-subject c =
+    let s = c.args.subject.now in
+    let h = history_of s.present.past.now in
+    ap (λ t. cond t None (Some (outer h s.present.who s.present.moment -ℤ run h s.present.who s.present.moment))) (sym c.if-subject.true ∙ ap (λ (r : PlayFacts). r.paused) c.requires.played_is)
 
 pub returns : goal.returns
 returns c =
-    let past = c.args.present.now.past.now in
-    let fits = present_fits past c.args.present.now.moment c.requires in
-    let outer_is = told_now past c.args.present.now.moment fits c.requires (λ (m : ℤ). c.outer-outer.result ≡ outer (history_of past) c.args.present.now.who m) (c.outer-outer.ensures.value (history_of past) c.clocks-clocks.ensures) in
-    let run_is = told_now past c.args.present.now.moment fits c.requires (λ (m : ℤ). c.run.result ≡ run (history_of past) c.args.present.now.who m) (c.run.ensures.value (history_of past) c.clocks-clocks.ensures) in
-    shifted past c.book.result.now c.args.present.now.who c.args.present.now.moment _ c.outer-outer.result c.run.result c.paused.result c.book.ensures c.paused.ensures c.if-paused.false outer_is run_is (omega (arith, ints))
+    let s = c.args.subject.now in
+    shifted s.present.past.now s.present.past.now.diary s.present.who s.present.moment _ s.clocks.outer s.clocks.own s.played.now.paused refl (ap (λ (r : PlayFacts). r.paused) c.requires.played_is) c.if-subject.false c.requires.outer_is c.requires.own_is (omega (arith, ints))

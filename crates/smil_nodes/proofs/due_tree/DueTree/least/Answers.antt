@@ -1,11 +1,12 @@
-use Rattle.std.proofs.Common.{◌∙◌, ap}
+use Rattle.std.proofs.Common.{◌∙◌, ap, List, Option}
+use Rattle.smil_model.specs.declared.happening.Key.{Key}
 use Rattle.smil_model.specs.happening.Keys.{least_key}
-use Rattle.smil_nodes.specs.declared.due_tree.Slot.{Slot}
 use Rattle.smil_nodes.specs.Slots.{keys_in}
-use Rattle.smil_nodes.proofs.Best.{least_slot, least_sums}
+use Rattle.smil_nodes.proofs.Best.{least_sums}
 use Rattle.smil_nodes.proofs.due_tree.DueTree.least.Goals as goal
 
 pub returns : goal.returns
 returns c =
-    ap (λ (s : Slot). s.key) (c.top.ensures least_slot least_sums)
-    ∙ ap (λ keys. least_key (keys_in keys)) c.self.view_is
+    c.key.ensures
+    ∙ c.top.ensures (λ (slots : List (Option Key)). least_key (keys_in slots)) least_sums
+    ∙ ap (λ (slots : List (Option Key)). least_key (keys_in slots)) c.self.view_is

@@ -7,8 +7,7 @@ use Rattle.smil_graph.specs.Graph.{IsGraphOrder}
 use Rattle.smil_past.specs.Past.{history_of}
 use Rattle.smil_rounds.specs.Round.{AreRowsEvaluated}
 use Rattle.smil_rounds.proofs.Taking.{take_next}
-use Rattle.smil_rounds.proofs.Current.{none_taken, ordered_element}
-use Rattle.smil_nodes.proofs.Ranked.{order_length}
+use Rattle.smil_rounds.proofs.Current.{none_taken, order_length, ordered_element}
 use Rattle.smil_nodes.proofs.Finishing.{taken_current}
 use Rattle.std.proofs.Common.{get_or, ap, sym}
 use Rattle.smil_model.specs.document.Document.{node_at}

@@ -12,12 +12,12 @@ use Rattle.smil_nodes.proofs.live.LiveTable.replace.Goals.{then-self+in_ok-note,
 
 pub returns-then-is_there-clause-put : goal.returns-then-is_there-clause-put
 returns-then-is_there-clause-put c =
-    sym (row_same c.args.self.now.schedule c.args.index c.args.row.now (c.is_there.ensures c.if-is_there.true).0)
+    sym (row_same c.args.self.now.schedule c.args.index c.args.row.now (c.is_there.ensures.0 c.if-is_there.true).0)
 
 pub returns-then-is_there-clause-ended : goal.returns-then-is_there-clause-ended
 returns-then-is_there-clause-ended c =
     let endings = c.args.self.now.endings in
-    sym (ap (put_ending endings c.args.index) (c.is_there.ensures c.if-is_there.true).1 ∙ put_back endings c.args.index)
+    sym (ap (put_ending endings c.args.index) (c.is_there.ensures.0 c.if-is_there.true).1 ∙ put_back endings c.args.index)
 
 pub returns-in_err-note-clause-back : goal.returns-in_err-note-clause-back
 returns-in_err-note-clause-back c = λ marked.

@@ -1,0 +1,44 @@
+use Rattle.std.proofs.Common.{◌∙◌, ap, sym, ◌<◌, ◌≤◌, length, arith}
+use Rattle.std.proofs.lemmas.Option.{slice_get_within}
+use Rattle.smil_model.specs.document.Document.{elements}
+use Rattle.smil_model.specs.happening.Keys.{coming_by}
+use Rattle.smil_laws.proofs.Rounds.{find-serial}
+use Rattle.smil_instances.proofs.Targets.{element_of}
+use Rattle.smil_past.specs.Past.{history_of}
+use Rattle.smil_rounds.proofs.Taking.{elements_few, evaluated_near}
+use Rattle.smil_rounds.proofs.current_rows.row_by.Goals as goal
+
+pub evaluation_of-requires-clause-known : goal.evaluation_of-requires-clause-known
+evaluation_of-requires-clause-known g c = λ e here implicit. c.requires.known e here implicit
+
+pub overflow_cast-index : goal.overflow_cast-index
+overflow_cast-index g c =
+    let nodes = c.args.subject.now.present.past.now.document.nodes in
+    let found = element_of nodes c.args.subject.now.present.who c.requires.found.element in
+    let within : c.args.index < length (elements nodes) = slice_get_within (elements nodes) c.args.index found.0 (c.requires.index ∙ found.1) in
+    let few : length (elements nodes) ≤ length nodes = elements_few nodes in
+    let all : length nodes ≤ 8000 = c.possible.ensures.valid.nodes in
+    omega (arith, within, few, all)
+
+pub comings_of-requires-clause-near : goal.comings_of-requires-clause-near
+comings_of-requires-clause-near g c =
+    let past = c.args.subject.now.present.past.now in
+    let found = element_of past.document.nodes c.args.subject.now.present.who c.requires.found.element in
+    evaluated_near (history_of past) (g.J.Intervals.given c.args.intervals.now) c.args.subject.now.present.moment found.0 c.in_ok-made.made c.possible.ensures.near (c.in_ok-made.ensures.made found.0 found.1)
+
+pub returns-clause-row : goal.returns-clause-row
+returns-clause-row g c = λ e here.
+    let past = c.args.subject.now.present.past.now in
+    let made = c.in_ok-made.made in
+    let is = c.in_ok-made.ensures.made e here in
+    record {
+      serial = sym (find-serial c.args.subject.now.present.who (elements past.document.nodes) e here);
+      interval = is.interval;
+      comings = c.comings_of.ensures e here ∙ ap (λ simple. coming_by (history_of past) made.interval simple c.args.subject.now.present.moment c.args.index e) is.simple;
+    }
+
+pub returns-clause-near : goal.returns-clause-near
+returns-clause-near g c =
+    let past = c.args.subject.now.present.past.now in
+    let found = element_of past.document.nodes c.args.subject.now.present.who c.requires.found.element in
+    evaluated_near (history_of past) (g.J.Intervals.given c.args.intervals.now) c.args.subject.now.present.moment found.0 c.in_ok-made.made c.possible.ensures.near (c.in_ok-made.ensures.made found.0 found.1)
