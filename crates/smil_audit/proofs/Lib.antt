@@ -1,7 +1,8 @@
+pub mod Accepted
 pub mod Fronts
+pub mod Going
+pub mod Keys
+pub mod Replays
+pub mod StepCounts
 pub mod Verdicts
 pub mod Walking
-pub mod Going
-pub mod Replays
-pub mod Keys
-pub mod Accepted

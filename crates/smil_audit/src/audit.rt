@@ -1,8 +1,9 @@
 //! The audit of a whole diary.
 
-ghost use Rattle.std.specs.Prelude.{◌≡◌, ◌≤◌, ◌≤ℤ◌, pos, nat_abs, length, IfOk};
+ghost use Rattle.std.specs.Prelude.{◌≡◌, ◌≤◌, ◌≤ℤ◌, ◌+◌, ◌*◌, pos, nat_abs, length, IfOk};
 ghost use Rattle.smil_model.specs.declared.times.TheConstants.{HORIZON as the_horizon};
 ghost use Rattle.smil_model.specs.declared.limits.TheConstants.{DIARY_ENTRIES as the_entries};
+ghost use Rattle.smil_model.specs.document.Document.{elements};
 ghost use Rattle.smil_model.specs.document.Valid.{IsValid};
 ghost use Rattle.smil_audit.specs.Verdict.{first_wrong};
 ghost use Rattle.smil_audit.specs.Replayed.{place_after};
@@ -17,7 +18,8 @@ use std::sync::ledger::Ledger;
 /// The first place, from 1, at which a diary of at most 1,000,000 entries is not that of a valid
 /// document and a log up to a last moment, from 0 to 10^12; None exactly where it is. The diary
 /// names the places of the log in order, each at its moment. Refused where memory runs out. Each
-/// step of the resolution that agrees evaluates all elements, and the first that differs ends it.
+/// step of the resolution that agrees evaluates all elements, and the first that differs ends it:
+/// so each is evaluated at most once for each entry of the diary, and once more.
 pub fn check<L: Ledger>(
     alloc: Global,
     doc: &Doc,
@@ -33,6 +35,8 @@ pub fn check<L: Ledger>(
     ensures verdict { IfOk result (λ place. place
         ≡ first_wrong doc.now.nodes log.now diary.now (nat_abs now)) }
     ensures counted { steps.old ≤ steps.new }
+    ensures most { steps.new ≤ steps.old + (length diary.now + 1)
+        * length (elements doc.now.nodes) }
 {
     let entries = diary.slice();
     let front = &entries[..placed_len(entries, now)];

@@ -1,8 +1,9 @@
 //! A resolution made anew, as far as a diary agrees with it.
 
-ghost use Rattle.std.specs.Prelude.{true, ◌≡◌, ◌≤◌, ◌≤ℤ◌, ◌++◌, ℤ, List, pos, nat_abs, length, take, Some, IfOk, OnOk, option_map};
+ghost use Rattle.std.specs.Prelude.{true, ◌≡◌, ◌≤◌, ◌≤ℤ◌, ◌++◌, ◌+◌, ◌-◌, ◌*◌, ℤ, List, pos, nat_abs, length, take, Some, IfOk, OnOk, option_map};
 ghost use Rattle.smil_model.specs.declared.times.TheConstants.{HORIZON as the_horizon};
 ghost use Rattle.smil_model.specs.declared.limits.TheConstants.{DIARY_ENTRIES as the_entries};
+ghost use Rattle.smil_model.specs.document.Document.{elements};
 ghost use Rattle.smil_model.specs.document.Valid.{IsValid};
 ghost use Rattle.smil_model.specs.diary.Lawful.{has_element};
 ghost use Rattle.smil_model.specs.happening.Groups.{group as group_at};
@@ -104,7 +105,8 @@ impl Replay {
 
     /// How many entries of a diary agree with the resolution, which goes on until one differs, or
     /// until its end. The diary is what the resolution came to, and goes on with at most so many
-    /// entries that there are 1,000,000. Refused where memory runs out.
+    /// entries that there are 1,000,000. Refused where memory runs out. All elements are evaluated
+    /// at most once for each entry with which the diary goes on, and once more.
     pub fn agreed<L: Ledger>(
         &mut self,
         given: &[Entry],
@@ -115,6 +117,8 @@ impl Replay {
         requires few { length given.now ≤ the_entries }
         ensures agrees { IfOk result (AgreesTo (replayed self.old) given.now) }
         ensures counted { steps.old ≤ steps.new }
+        ensures most { steps.new ≤ steps.old + (length given.now - length self.old.past.diary + 1)
+            * length (elements self.old.past.document.nodes) }
     {
         'steps: loop {
             match self.go_on(given, steps)? {
@@ -148,6 +152,7 @@ impl Replay {
         ensures went { IfOk result (WentBy (replayed self.old) (replayed self.new) given.now) }
         ensures sound { OnOk result (IsReplay self.new) }
         ensures counted { steps.old ≤ steps.new }
+        ensures most { steps.new ≤ steps.old + length (elements self.old.past.document.nodes) }
     {
         let first = self.first(steps)?;
         let until = self.until();
@@ -232,6 +237,7 @@ impl Replay {
         ensures first { IfOk result (λ first. option_map coming_meant first
             ≡ first_at (replayed self.old)) }
         ensures counted { steps.old ≤ steps.new }
+        ensures most { steps.new ≤ steps.old + length (elements self.old.past.document.nodes) }
     {
         evaluate_all(
             &self.past,
@@ -347,6 +353,9 @@ fn evaluate_all<L: Ledger>(
     ensures current { OnOk result (IsCurrent known.new (due_in known.new)
         (past_of.history_of past.now) moment) }
     ensures counted { steps.old ≤ steps.new }
+    ensures steps { OnOk result (steps.new ≡ steps.old
+        + length (elements past.now.document.nodes)) }
+    ensures most { steps.new ≤ steps.old + length (elements past.now.document.nodes) }
 {
     past.possible();
     for who in past.graph().order() {
@@ -373,6 +382,8 @@ fn evaluate<L: Ledger>(
     ensures evaluated { OnOk result (IsRowEvaluated (past_of.history_of present.now.past.now)
         present.now.moment present.now.who known.old known.new) }
     ensures counted { steps.old ≤ steps.new }
+    ensures steps { OnOk result (steps.new ≡ steps.old + 1) }
+    ensures most { steps.new ≤ steps.old + 1 }
 {
     present.past.possible();
     let index = known.index_of(present.who).unwrap();
