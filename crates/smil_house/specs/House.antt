@@ -7,6 +7,9 @@ use Rattle.smil_model.specs.declared.order.Refusal.{Refusal}
 use Rattle.smil_model.specs.declared.order.Refusal.TheVariants.{NameTaken, TooManyPresentations, NoPresentation}
 use Rattle.smil_model.specs.shown.Orders.{Formats, Presentation}
 use Rattle.smil_model.specs.shown.Answers.{Accepts, Refuses, AtLeast, AtMost, MayEvaluate}
+use Rattle.smil_report.specs.declared.records.Change.{Change}
+use Rattle.smil_report.specs.Records.{as_records}
+use Rattle.smil_report.specs.Tellings.{Tells}
 use Rattle.smil_house.specs.declared.house.NamedPlayer.{NamedPlayer}
 
 -- the place of the presentation of this name
@@ -68,6 +71,22 @@ pub record IsAnsweredBy {P : Type 0} (formats : P → Formats) (presentation : P
   pub turned : IsReplaced formats takes name old new place before after
   pub accepted : Accepts (formats before.player) (presentation before.player)
       (presentation after.player) given text
+  pub moment_is : moment ≡ pos (presentation after.player).now
+  pub least_is : AtLeast (least before.player given) rise
+  pub most_is : AtMost (most before.player given) rise
+
+-- the presentation of this name has answered an order, by these records and so many evaluations,
+-- and is at this moment
+pub record IsRecordedBy {P : Type 0} (formats : P → Formats) (presentation : P → Presentation)
+    (takes : P → Order → Bool) (least most : P → Order → Option ℕ) (name : List ℕ) (given : Order)
+    (old new : List (NamedPlayer P)) (changes : List Change) (rise : ℕ) (moment : ℤ)
+    : Type 0 where
+  pub place : ℕ
+  pub before : NamedPlayer P
+  pub after : NamedPlayer P
+  pub turned : IsReplaced formats takes name old new place before after
+  pub accepted : Tells as_records (formats before.player) (presentation before.player)
+      (presentation after.player) given changes
   pub moment_is : moment ≡ pos (presentation after.player).now
   pub least_is : AtLeast (least before.player given) rise
   pub most_is : AtMost (most before.player given) rise

@@ -1,14 +1,18 @@
 //! Presentations under their names.
 
-ghost use Rattle.std.specs.Prelude.{◌≡◌, ℕ, ◌≤◌, ◌-◌, ◌++◌, ◌∷◌, [], drop, length, Result, Ok, Err, None, Some, OnOk, OnErr, IfOk, IfErr, IfSome};
+ghost use Rattle.std.specs.Prelude.{◌≡◌, ℕ, ◌≤◌, ◌-◌, ◌++◌, ◌∷◌, [], drop, length, Result, Ok, Err, None, Some, false, OnOk, OnErr, IfOk, IfErr, IfSome};
 ghost use Rattle.smil_model.specs.declared.order.Refusal.TheVariants as refusal;
 ghost use Rattle.smil_model.specs.shown.Answers.{IsGiven};
-ghost use Rattle.smil_house.specs.House.{place_of, load_refusal, moment_of, named, without, AreKept, IsAnsweredBy, IsRefused, Takes};
+ghost use Rattle.smil_report.specs.Tellings.{is_telling};
+ghost use Rattle.smil_house.specs.House.{place_of, load_refusal, moment_of, named, without, AreKept, IsAnsweredBy, IsRecordedBy, IsRefused, Takes};
 ghost use Rattle.smil_house.specs.Next.{NothingChangesBefore, next_in};
+ghost use Rattle.smil_house.specs.Screen.{element_in, found_in};
 
 use super::player::Player;
+use super::screen::OnScreen;
 use smil_interval::Steps;
-use smil_model::{Bytes, Order, PRESENTATIONS, Refusal};
+use smil_model::{Bytes, Order, PRESENTATIONS, Refusal, Who};
+use smil_report::Changes;
 use std::alloc::{AllocError, Global};
 use std::marker::Model;
 use std::sync::ledger::Ledger;
@@ -106,6 +110,38 @@ impl<P: Player + Drop> House<P> {
         Ok(player.now())
     }
 
+    /// Answers an order that may change something to the presentation of this name, as `answer`
+    /// does, but appends what it changes as records in the place of their lines.
+    pub fn record<L: Ledger>(
+        &mut self,
+        name: &[u8],
+        order: &Order,
+        out: &mut Changes,
+        steps: &mut Steps<L>,
+    ) -> Result<i64, Refusal>
+        requires given { IsGiven order.now }
+        requires taken { Takes P.takes name.now order.now self.old }
+        requires changes { is_telling order.now ≡ false }
+        ensures ok { IfOk result (IsRecordedBy P.formats P.presentation P.takes P.least_steps
+            P.most_steps name.now order.now self.old self.new (drop (length out.old) out.new)
+            (steps.new - steps.old)) }
+        ensures appended { OnOk result (out.new ≡ out.old ++ drop (length out.old) out.new) }
+        ensures refused { IfErr result
+            (IsRefused P.formats P.presentation P.most_steps name.now order.now self.old
+            (steps.new - steps.old)) }
+        ensures kept { OnErr result (AreKept P.formats P.presentation P.takes name.now self.old
+            self.new) }
+        ensures records { OnErr result (out.new ≡ out.old) }
+        ensures counted { steps.old ≤ steps.new }
+    {
+        let Some(index) = self.index_of(name) else {
+            return Err(Refusal::NoPresentation);
+        };
+        let held = &mut self.held[index];
+        held.player.record(order, out, steps)?;
+        Ok(held.player.now())
+    }
+
     /// Closes the presentation of this name. `NoPresentation` exactly where there is none, and then
     /// all is as before. It takes no memory.
     pub fn close(&mut self, name: &[u8]) -> Result<(), Refusal>
@@ -142,6 +178,29 @@ impl<P: Player + Drop> House<P> {
     {
         match self.index_of(name) {
             Some(index) => self.held[index].player.next_due(),
+            None => None,
+        }
+    }
+
+    /// The serial of a node of the presentation of this name, by its id or its serial; None where
+    /// there is no such node, or no such presentation. It takes no memory.
+    pub fn find(&self, name: &[u8], who: &Who) -> Option<u32>
+        ensures { result ≡ found_in P.presentation who.now name.now self.now }
+    {
+        match self.index_of(name) {
+            Some(index) => self.held[index].player.find(who),
+            None => None,
+        }
+    }
+
+    /// What is on the screen of the element at a place in document order, from 0, of the
+    /// presentation of this name; None past the last one, or where there is no such presentation.
+    /// It takes no memory.
+    pub fn on_screen(&self, name: &[u8], index: usize) -> Option<OnScreen>
+        ensures { result ≡ element_in P.presentation index name.now self.now }
+    {
+        match self.index_of(name) {
+            Some(place) => self.held[place].player.on_screen(index),
             None => None,
         }
     }

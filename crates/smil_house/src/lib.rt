@@ -3,6 +3,8 @@
 
 pub mod house;
 pub mod player;
+pub mod screen;
 
 pub use house::House;
 pub use player::Player;
+pub use screen::{OnScreen, Showing};

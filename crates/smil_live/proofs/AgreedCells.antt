@@ -12,8 +12,9 @@ use Rattle.smil_model.specs.declared.order.Refusal.{Refusal}
 use Rattle.smil_model.specs.document.Document.{Document, elements}
 use Rattle.smil_model.specs.document.Valid.{IsValid}
 use Rattle.smil_model.specs.document.Values.{is_clock}
-use Rattle.smil_model.specs.shown.Answers.{Accepts, Refuses}
+use Rattle.smil_model.specs.shown.Answers.{Refuses}
 use Rattle.smil_model.specs.shown.Orders.{IsState, Presentation, course_of}
+use Rattle.smil_report.specs.Tellings.{Telling, Tells}
 use Rattle.smil_grammar.specs.Formats.{formats}
 use Rattle.smil_cells.specs.CellsState.{IsRebuilt, MayRebuild, CellsState, WhereTold}
 use Rattle.smil_live.specs.Counted.{IsAtLeast, IsAtMost, KeepsToCounts, IsFree}
@@ -100,47 +101,48 @@ least_is p q (order.Insert who place line column) edits = refl
 least_is p q (order.Remove who) edits = refl
 least_is p q _ edits = absurd cc
 
-edited_most : (r : Result (Unit {0}) Refusal) (counts : Bool) (p q : Presentation) (o : Order) (d : Document) (at : Site) (old new : List ℕ) (rise : ℕ) → is_edit o ≡ true → edit_of p o ≡ Ok d → at ≡ site_of p.document o
-    → OnOk r (IsEdited p d q old new) → OnOk r (WhereTold counts (rise ≤ most_resolving p at d)) → OnOk r (IsAtMost counts p o rise)
-edited_most (Err e) counts p q o d at old new rise edits edited here is most = tt
-edited_most (Ok x) counts p q o d at old new rise edits edited here is most =
-    at_most counts p q o rise (edited_accepted p q o d old new edits edited is).state
-    (subst (λ (n : ℕ). WhereTold counts (rise ≤ n)) (ap (λ (x : Site). most_resolving p x d) here ∙ (most_is p o d edits ∙ ap (most_between p o) (sym is.state))) most)
+module _ {I : Type 0} (tell : Telling I) where
+  edited_most : (r : Result (Unit {0}) Refusal) (counts : Bool) (p q : Presentation) (o : Order) (d : Document) (at : Site) (old new : List I) (rise : ℕ) → is_edit o ≡ true → edit_of p o ≡ Ok d → at ≡ site_of p.document o
+      → OnOk r (IsEdited tell p d q old new) → OnOk r (WhereTold counts (rise ≤ most_resolving p at d)) → OnOk r (IsAtMost counts p o rise)
+  edited_most (Err e) counts p q o d at old new rise edits edited here is most = tt
+  edited_most (Ok x) counts p q o d at old new rise edits edited here is most =
+      at_most counts p q o rise (edited_accepted tell p q o d old new edits edited is).state
+      (subst (λ (n : ℕ). WhereTold counts (rise ≤ n)) (ap (λ (x : Site). most_resolving p x d) here ∙ (most_is p o d edits ∙ ap (most_between p o) (sym is.state))) most)
 
-edited_least : (r : Result (Unit {0}) Refusal) (counts : Bool) (p q : Presentation) (o : Order) (d : Document) (old new : List ℕ) (rise : ℕ) → is_edit o ≡ true → edit_of p o ≡ Ok d
-    → OnOk r (IsEdited p d q old new) → OnOk r (WhereTold counts (least_loading (edited_to p d) ≤ rise)) → OnOk r (IsAtLeast counts p o rise)
-edited_least (Err e) counts p q o d old new rise edits edited is least = tt
-edited_least (Ok x) counts p q o d old new rise edits edited is least =
-    at_least counts p q o rise (edited_accepted p q o d old new edits edited is).state
-    (subst (λ (n : ℕ). WhereTold counts (n ≤ rise)) (ap least_loading (sym is.state) ∙ least_is p q o edits) least)
+  edited_least : (r : Result (Unit {0}) Refusal) (counts : Bool) (p q : Presentation) (o : Order) (d : Document) (old new : List I) (rise : ℕ) → is_edit o ≡ true → edit_of p o ≡ Ok d
+      → OnOk r (IsEdited tell p d q old new) → OnOk r (WhereTold counts (least_loading (edited_to p d) ≤ rise)) → OnOk r (IsAtLeast counts p o rise)
+  edited_least (Err e) counts p q o d old new rise edits edited is least = tt
+  edited_least (Ok x) counts p q o d old new rise edits edited is least =
+      at_least counts p q o rise (edited_accepted tell p q o d old new edits edited is).state
+      (subst (λ (n : ℕ). WhereTold counts (n ≤ rise)) (ap least_loading (sym is.state) ∙ least_is p q o edits) least)
 
-edited_bounded : (r : Result (Unit {0}) Refusal) (counts : Bool) (p q : Presentation) (o : Order) (d : Document) (at : Site) (old new : List ℕ) (rise : ℕ) → is_edit o ≡ true → edit_of p o ≡ Ok d → at ≡ site_of p.document o
-    → OnOk r (IsEdited p d q old new) → OnOk r (WhereTold counts (rise ≤ most_resolving p at d)) → OnOk r (WhereTold counts (least_loading (edited_to p d) ≤ rise)) → IfErr r (IsTooFull (edited_to p d))
-    → KeepsToCounts counts p o r rise
-edited_bounded r counts p q o d at old new rise edits edited here is most least refused = record {
-  most = edited_most r counts p q o d at old new rise edits edited here is most;
-  least = edited_least r counts p q o d old new rise edits edited is least;
-  free =
-      IfErr-weaker r (IsTooFull (edited_to p d)) (λ (e : Refusal). IsFree counts p o e rise)
-      (λ e full. free_too_full (told_where counts (most_number p o)) (edited_to p d) e rise full) refused;
-}
+  edited_bounded : (r : Result (Unit {0}) Refusal) (counts : Bool) (p q : Presentation) (o : Order) (d : Document) (at : Site) (old new : List I) (rise : ℕ) → is_edit o ≡ true → edit_of p o ≡ Ok d → at ≡ site_of p.document o
+      → OnOk r (IsEdited tell p d q old new) → OnOk r (WhereTold counts (rise ≤ most_resolving p at d)) → OnOk r (WhereTold counts (least_loading (edited_to p d) ≤ rise)) → IfErr r (IsTooFull (edited_to p d))
+      → KeepsToCounts counts p o r rise
+  edited_bounded r counts p q o d at old new rise edits edited here is most least refused = record {
+    most = edited_most r counts p q o d at old new rise edits edited here is most;
+    least = edited_least r counts p q o d old new rise edits edited is least;
+    free =
+        IfErr-weaker r (IsTooFull (edited_to p d)) (λ (e : Refusal). IsFree counts p o e rise)
+        (λ e full. free_too_full (told_where counts (most_number p o)) (edited_to p d) e rise full) refused;
+  }
 
--- what an order that edits is answered, and how often it has intervals evaluated
-pub record IsAnswered (r : Result (Unit {0}) Refusal) (counts : Bool) (p q : Presentation) (o : Order) (old new : List ℕ) (rise : ℕ) : Type 0 where
-  pub ok : OnOk r (Accepts formats p q o (drop (length old) new))
-  pub appended : OnOk r (new ≡ old ++ drop (length old) new)
-  pub refused : IfErr r (Refuses formats p o)
-  pub bounded : KeepsToCounts counts p o r rise
+  -- what an order that edits is answered, and how often it has intervals evaluated
+  pub record IsAnswered (r : Result (Unit {0}) Refusal) (counts : Bool) (p q : Presentation) (o : Order) (old new : List I) (rise : ℕ) : Type 0 where
+    pub ok : OnOk r (Tells tell formats p q o (drop (length old) new))
+    pub appended : OnOk r (new ≡ old ++ drop (length old) new)
+    pub refused : IfErr r (Refuses formats p o)
+    pub bounded : KeepsToCounts counts p o r rise
 
-pub edit_answered : (r : Result (Unit {0}) Refusal) (counts : Bool) (p q : Presentation) (o : Order) (d : Document) (at : Site) (old new : List ℕ) (rise : ℕ) → is_edit o ≡ true → edit_of p o ≡ Ok d → at ≡ site_of p.document o
-    → OnOk r (IsEdited p d q old new) → OnOk r (WhereTold counts (rise ≤ most_resolving p at d)) → OnOk r (WhereTold counts (least_loading (edited_to p d) ≤ rise)) → IfErr r (IsTooFull (edited_to p d))
-    → IsAnswered r counts p q o old new rise
-edit_answered r counts p q o d at old new rise edits edited here is most least refused = record {
-  ok = on_ok_weaker r (edited_accepted p q o d old new edits edited) is;
-  appended = on_ok_weaker r (edited_appended p q d old new) is;
-  refused = IfErr-weaker r (IsTooFull (edited_to p d)) (Refuses formats p o) (λ e h. not_edited p o d e edits edited h) refused;
-  bounded = edited_bounded r counts p q o d at old new rise edits edited here is most least refused;
-}
+  pub edit_answered : (r : Result (Unit {0}) Refusal) (counts : Bool) (p q : Presentation) (o : Order) (d : Document) (at : Site) (old new : List I) (rise : ℕ) → is_edit o ≡ true → edit_of p o ≡ Ok d → at ≡ site_of p.document o
+      → OnOk r (IsEdited tell p d q old new) → OnOk r (WhereTold counts (rise ≤ most_resolving p at d)) → OnOk r (WhereTold counts (least_loading (edited_to p d) ≤ rise)) → IfErr r (IsTooFull (edited_to p d))
+      → IsAnswered r counts p q o old new rise
+  edit_answered r counts p q o d at old new rise edits edited here is most least refused = record {
+    ok = on_ok_weaker r (edited_accepted tell p q o d old new edits edited) is;
+    appended = on_ok_weaker r (edited_appended tell p q d old new) is;
+    refused = IfErr-weaker r (IsTooFull (edited_to p d)) (Refuses formats p o) (λ e h. not_edited p o d e edits edited h) refused;
+    bounded = edited_bounded r counts p q o d at old new rise edits edited here is most least refused;
+  }
 
 -- ---- a seek back
 
@@ -152,21 +154,22 @@ below : (to : ℤ) (n : ℕ) → pos 0 ≤ℤ to → to <ℤ pos n → nat_lt (n
 below (pos k) n from back = lt-ltb k n (omega (arith, ints, back))
 below (negsuc k) n from back = absurd (omega (arith, ints, from))
 
-pub sought_most : (r : Result (Unit {0}) Refusal) (counts : Bool) (p q : Presentation) (s : CellsState) (to : ℤ) (text : List ℕ) (rise : ℕ) → is_clock to ≡ true → to <ℤ pos p.now → IsReplayed (sought_of p to) s
-    → OnOk r (q ≡ s.presentation) → OnOk r (Accepts formats p q (order.Seek to) text) → WhereTold counts (rise ≤ length (elements p.document.nodes)) → OnOk r (IsAtMost counts p (order.Seek to) rise)
-sought_most (Err e) counts p q s to text rise clock back is here accepted most = tt
-sought_most (Ok x) counts p q s to text rise clock back is here accepted most =
-    at_most counts p q (order.Seek to) rise accepted.state
-    (subst (λ (t : Bool). WhereTold counts (rise ≤ most_seeking t p q)) (sym (below to p.now (clock_from to clock).0 back))
-    (subst (λ (z : Presentation). WhereTold counts (rise ≤ length (elements z.document.nodes))) (sym (here ∙ is.presentation_is)) most))
+module _ {I : Type 0} (tell : Telling I) where
+  pub sought_most : (r : Result (Unit {0}) Refusal) (counts : Bool) (p q : Presentation) (s : CellsState) (to : ℤ) (text : List I) (rise : ℕ) → is_clock to ≡ true → to <ℤ pos p.now → IsReplayed (sought_of p to) s
+      → OnOk r (q ≡ s.presentation) → OnOk r (Tells tell formats p q (order.Seek to) text) → WhereTold counts (rise ≤ length (elements p.document.nodes)) → OnOk r (IsAtMost counts p (order.Seek to) rise)
+  sought_most (Err e) counts p q s to text rise clock back is here accepted most = tt
+  sought_most (Ok x) counts p q s to text rise clock back is here accepted most =
+      at_most counts p q (order.Seek to) rise accepted.state
+      (subst (λ (t : Bool). WhereTold counts (rise ≤ most_seeking t p q)) (sym (below to p.now (clock_from to clock).0 back))
+      (subst (λ (z : Presentation). WhereTold counts (rise ≤ length (elements z.document.nodes))) (sym (here ∙ is.presentation_is)) most))
 
-pub sought_least : (r : Result (Unit {0}) Refusal) (counts : Bool) (p q : Presentation) (s : CellsState) (to : ℤ) (text : List ℕ) (rise : ℕ) → is_clock to ≡ true → to <ℤ pos p.now → IsReplayed (sought_of p to) s
-    → OnOk r (q ≡ s.presentation) → OnOk r (Accepts formats p q (order.Seek to) text) → WhereTold counts (least_loading (sought_of p to) ≤ rise) → OnOk r (IsAtLeast counts p (order.Seek to) rise)
-sought_least (Err e) counts p q s to text rise clock back is here accepted least = tt
-sought_least (Ok x) counts p q s to text rise clock back is here accepted least =
-    at_least counts p q (order.Seek to) rise accepted.state
-    (subst (λ (t : Bool). WhereTold counts (least_seeking t p q ≤ rise)) (sym (below to p.now (clock_from to clock).0 back))
-    (subst (λ (z : Presentation). WhereTold counts (least_loading z ≤ rise)) (sym (here ∙ is.presentation_is)) least))
+  pub sought_least : (r : Result (Unit {0}) Refusal) (counts : Bool) (p q : Presentation) (s : CellsState) (to : ℤ) (text : List I) (rise : ℕ) → is_clock to ≡ true → to <ℤ pos p.now → IsReplayed (sought_of p to) s
+      → OnOk r (q ≡ s.presentation) → OnOk r (Tells tell formats p q (order.Seek to) text) → WhereTold counts (least_loading (sought_of p to) ≤ rise) → OnOk r (IsAtLeast counts p (order.Seek to) rise)
+  sought_least (Err e) counts p q s to text rise clock back is here accepted least = tt
+  sought_least (Ok x) counts p q s to text rise clock back is here accepted least =
+      at_least counts p q (order.Seek to) rise accepted.state
+      (subst (λ (t : Bool). WhereTold counts (least_seeking t p q ≤ rise)) (sym (below to p.now (clock_from to clock).0 back))
+      (subst (λ (z : Presentation). WhereTold counts (least_loading z ≤ rise)) (sym (here ∙ is.presentation_is)) least))
 
 -- ---- the diary that is kept
 

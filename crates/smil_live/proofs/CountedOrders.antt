@@ -6,8 +6,9 @@ use Rattle.std.proofs.lemmas.Int.{ints}
 use Rattle.smil_model.specs.declared.order.Order.{Order}
 use Rattle.smil_model.specs.declared.order.Order.TheVariants as order
 use Rattle.smil_model.specs.declared.order.Refusal.{Refusal}
-use Rattle.smil_model.specs.shown.Answers.{Accepts, MayEvaluate}
+use Rattle.smil_model.specs.shown.Answers.{MayEvaluate}
 use Rattle.smil_model.specs.shown.Orders.{Presentation, outcome}
+use Rattle.smil_report.specs.Tellings.{Telling, Tells}
 use Rattle.smil_grammar.specs.Formats.{formats}
 use Rattle.smil_cells.specs.CellsState.{WhereTold}
 use Rattle.smil_live.specs.Counted.{IsAtLeast, IsAtMost, KeepsToCounts, IsFree}
@@ -27,15 +28,15 @@ at_least counts before after given rise state least =
     subst (λ (r : Result Presentation Refusal). WhereTold counts (when_accepted r (least_between before given) ≤ rise)) (sym state) least
 
 -- the same of a result
-pub at_most_then : {A E : Type 0} (r : Result A E) (counts : Bool) (before after : Presentation) (given : Order) (text : List ℕ) (rise : ℕ) → OnOk r (Accepts formats before after given text)
+pub at_most_then : {A E I : Type 0} (tell : Telling I) (r : Result A E) (counts : Bool) (before after : Presentation) (given : Order) (text : List I) (rise : ℕ) → OnOk r (Tells tell formats before after given text)
     → OnOk r (WhereTold counts (rise ≤ most_between before given after)) → OnOk r (IsAtMost counts before given rise)
-at_most_then (Err e) counts before after given text rise accepted most = tt
-at_most_then (Ok x) counts before after given text rise accepted most = at_most counts before after given rise accepted.state most
+at_most_then tell (Err e) counts before after given text rise accepted most = tt
+at_most_then tell (Ok x) counts before after given text rise accepted most = at_most counts before after given rise accepted.state most
 
-pub at_least_then : {A E : Type 0} (r : Result A E) (counts : Bool) (before after : Presentation) (given : Order) (text : List ℕ) (rise : ℕ) → OnOk r (Accepts formats before after given text)
+pub at_least_then : {A E I : Type 0} (tell : Telling I) (r : Result A E) (counts : Bool) (before after : Presentation) (given : Order) (text : List I) (rise : ℕ) → OnOk r (Tells tell formats before after given text)
     → OnOk r (WhereTold counts (least_between before given after ≤ rise)) → OnOk r (IsAtLeast counts before given rise)
-at_least_then (Err e) counts before after given text rise accepted least = tt
-at_least_then (Ok x) counts before after given text rise accepted least = at_least counts before after given rise accepted.state least
+at_least_then tell (Err e) counts before after given text rise accepted least = tt
+at_least_then tell (Ok x) counts before after given text rise accepted least = at_least counts before after given rise accepted.state least
 
 -- ---- a seek onward
 
@@ -78,12 +79,12 @@ bounded_accepted counts before after given rise state most least = record {
   free = tt;
 }
 
-pub bounded_then : (r : Result (Unit {0}) Refusal) (counts : Bool) (before after : Presentation) (given : Order) (text : List ℕ) (rise : ℕ) → OnOk r (Accepts formats before after given text)
+pub bounded_then : {I : Type 0} (tell : Telling I) (r : Result (Unit {0}) Refusal) (counts : Bool) (before after : Presentation) (given : Order) (text : List I) (rise : ℕ) → OnOk r (Tells tell formats before after given text)
     → OnOk r (WhereTold counts (rise ≤ most_between before given after)) → OnOk r (WhereTold counts (least_between before given after ≤ rise))
     → IfErr r (λ (e : Refusal). IsFree counts before given e rise) → KeepsToCounts counts before given r rise
-bounded_then r counts before after given text rise accepted most least free = record {
-  most = at_most_then r counts before after given text rise accepted most;
-  least = at_least_then r counts before after given text rise accepted least;
+bounded_then tell r counts before after given text rise accepted most least free = record {
+  most = at_most_then tell r counts before after given text rise accepted most;
+  least = at_least_then tell r counts before after given text rise accepted least;
   free = free;
 }
 

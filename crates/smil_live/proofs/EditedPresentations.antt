@@ -1,9 +1,7 @@
 -- What an edited presentation comes to.
-use Rattle.std.proofs.Common.{◌≡◌, ℕ, ℤ, ◌≤◌, List, ◌++◌, length, take, drop, true, not, Some, Result, Ok, Err, refl, sym, ap, ◌∙◌, subst, append_assoc, arith}
+use Rattle.std.proofs.Common.{◌≡◌, ℕ, ℤ, List, ◌++◌, length, drop, true, not, Some, Result, Ok, Err, refl, sym, ap, ◌∙◌, subst, append_assoc}
 use Rattle.std.specs.Prelude.{pos, flat_map, filter, is_some, is_err, IsSome, IfOk, IfErr, OnErr, OnOk}
 use Rattle.std.proofs.Math.Seq.{drop-append_seam}
-use Rattle.std.proofs.lemmas.List.{length-take}
-use Rattle.smil_model.specs.document.Words.{Begins}
 use Rattle.smil_model.specs.declared.document.Node.{Node}
 use Rattle.smil_model.specs.declared.order.Order.{Order}
 use Rattle.smil_model.specs.declared.order.Refusal.{Refusal}
@@ -12,15 +10,16 @@ use Rattle.smil_model.specs.declared.view.View.{View}
 use Rattle.smil_model.specs.document.Document.{Document, elements, node_at}
 use Rattle.smil_model.specs.document.Valid.{IsValid}
 use Rattle.smil_model.specs.happening.Resolution.{diary_of}
-use Rattle.smil_model.specs.shown.Answers.{Accepts, IsRefusedBy, Refuses, change_text, gone_text}
-use Rattle.smil_model.specs.shown.Lines.{gone_line, name_of}
+use Rattle.smil_model.specs.shown.Answers.{IsRefusedBy, Refuses}
+use Rattle.smil_model.specs.shown.Lines.{name_of}
 use Rattle.smil_model.specs.shown.Orders.{IsState, Presentation, at_moment, changed, changes_between, course_of, node_of, on_node, views_of}
+use Rattle.smil_report.specs.Tellings.{Telling, Tells, change_told, gone_told}
 use Rattle.smil_grammar.specs.Formats.{formats}
 use Rattle.smil_cells.specs.CellsState.{CellsState}
 use Rattle.smil_live.specs.Editing.{IsEdited, edit_of}
 use Rattle.smil_revision.specs.Editing.{at_node}
 use Rattle.smil_shown.specs.ShownViews.{IsPlaying, views_at}
-use Rattle.smil_live.specs.Moves.{IsReplayed, IsTooFull, edited_to, text_of}
+use Rattle.smil_live.specs.Moves.{IsReplayed, IsTooFull, edited_to, told_of}
 use Rattle.smil_shown.specs.ViewTable.{ViewLists}
 use Rattle.smil_live.specs.Telling.{is_edit}
 use Rattle.smil_revision.proofs.Copying.{at_there, some_from}
@@ -56,22 +55,24 @@ edit_err r x y same h = subst (λ (z : Result Document Refusal). IfErr r (IsRefu
 
 -- ---- the answer
 
--- the two parts of the text as one
-whole_text : (p q : Presentation) (d : Document) (old new : List ℕ) → IsEdited p d q old new → new ≡ old ++ (gone_text p q ++ text_of q (changes_between p q))
-whole_text p q d old new is = is.told ∙ append_assoc old (gone_text p q) (text_of q (changes_between p q))
+module _ {I : Type 0} (tell : Telling I) where
+  -- the two parts of what is told as one
+  whole_told : (p q : Presentation) (d : Document) (old new : List I) → IsEdited tell p d q old new → new ≡ old ++ (gone_told tell p q ++ told_of tell q (changes_between p q))
+  whole_told p q d old new is = is.told ∙ append_assoc old (gone_told tell p q) (told_of tell q (changes_between p q))
 
-pub edited_appended : (p q : Presentation) (d : Document) (old new : List ℕ) → IsEdited p d q old new → new ≡ old ++ drop (length old) new
-edited_appended p q d old new is = is_appended old new (gone_text p q ++ text_of q (changes_between p q)) (whole_text p q d old new is)
+  pub edited_appended : (p q : Presentation) (d : Document) (old new : List I) → IsEdited tell p d q old new → new ≡ old ++ drop (length old) new
+  edited_appended p q d old new is = is_appended old new (gone_told tell p q ++ told_of tell q (changes_between p q)) (whole_told p q d old new is)
 
 -- ---- the edited presentation
 
 pub edited_state : (p : Presentation) (d : Document) → IsState p → IsValid d → IsState (edited_to p d)
 edited_state p d state valid = record { document = valid; log = state.log; logged = state.logged; now = state.now }
 
-pub edited_accepted : (p q : Presentation) (o : Order) (d : Document) (old new : List ℕ) → is_edit o ≡ true → edit_of p o ≡ Ok d → IsEdited p d q old new → Accepts formats p q o (drop (length old) new)
-edited_accepted p q o d old new edits edited is =
-    edit_accepted p q o d (drop (length old) new) edits edited (has_room (edited_to p d) q is.diary is.state is.settled)
-    (ap (drop (length old)) (whole_text p q d old new is) ∙ drop-append_seam old (gone_text p q ++ text_of q (changes_between p q)))
+module _ {I : Type 0} (tell : Telling I) where
+  pub edited_accepted : (p q : Presentation) (o : Order) (d : Document) (old new : List I) → is_edit o ≡ true → edit_of p o ≡ Ok d → IsEdited tell p d q old new → Tells tell formats p q o (drop (length old) new)
+  edited_accepted p q o d old new edits edited is =
+      edit_accepted tell p q o d (drop (length old) new) edits edited (has_room (edited_to p d) q is.diary is.state is.settled)
+      (ap (drop (length old)) (whole_told tell p q d old new is) ∙ drop-append_seam old (gone_told tell p q ++ told_of tell q (changes_between p q)))
 
 pub not_edited : (p : Presentation) (o : Order) (d : Document) (e : Refusal) → is_edit o ≡ true → edit_of p o ≡ Ok d → IsTooFull (edited_to p d) e → Refuses formats p o e
 not_edited p o d e edits edited full = state_refused p o d e edits edited (no_room (edited_to p d) e full)
@@ -100,40 +101,36 @@ plays q s shown state is seen = record {
 pub replayed_own : (q : Presentation) (s : CellsState) → IsReplayed q s → IsReplayed s.presentation s
 replayed_own q s is = record { presentation_is = refl; sound = is.sound; unmarked = is.unmarked; settled = is.settled }
 
-pub edited_on_ok : (r : Result (Unit {0}) Refusal) (p q : Presentation) (d : Document) (s : CellsState) (old new : List ℕ) → IsReplayed (edited_to p d) s → OnOk r (q ≡ s.presentation) → OnOk r (new ≡ old ++ gone_text p s.presentation ++ text_of s.presentation (changes_between p s.presentation)) → OnOk r (IsEdited p d q old new)
-edited_on_ok (Err e) p q d s old new is same said = tt
-edited_on_ok (Ok x) p q d s old new is same said = record {
-  state = same ∙ is.presentation_is;
-  diary = s.diary;
-  settled = subst (λ (t : Presentation). diary_of (course_of t) ≡ Some s.diary) (sym same) is.settled;
-  told = subst (λ (t : Presentation). new ≡ old ++ gone_text p t ++ text_of t (changes_between p t)) (sym same) said;
-}
+module _ {I : Type 0} (tell : Telling I) where
+  pub edited_on_ok : (r : Result (Unit {0}) Refusal) (p q : Presentation) (d : Document) (s : CellsState) (old new : List I) → IsReplayed (edited_to p d) s → OnOk r (q ≡ s.presentation) → OnOk r (new ≡ old ++ gone_told tell p s.presentation ++ told_of tell s.presentation (changes_between p s.presentation)) → OnOk r (IsEdited tell p d q old new)
+  edited_on_ok (Err e) p q d s old new is same said = tt
+  edited_on_ok (Ok x) p q d s old new is same said = record {
+    state = same ∙ is.presentation_is;
+    diary = s.diary;
+    settled = subst (λ (t : Presentation). diary_of (course_of t) ≡ Some s.diary) (sym same) is.settled;
+    told = subst (λ (t : Presentation). new ≡ old ++ gone_told tell p t ++ told_of tell t (changes_between p t)) (sym same) said;
+  }
 
--- ---- a text that is cut back
+-- ---- by what came of a call
 
 -- where a call has failed
 pub where_err : {A E : Type 0} (r : Result A E) (P : Type 0) → is_err r ≡ true → OnErr r P → P
 where_err (Ok x) P q h = cc
 where_err (Err e) P q h = h
 
-pub begins_long : (old new : List ℕ) (len : ℕ) → len ≡ length old → Begins old new → len ≤ length new
-begins_long old new len is begins = omega (arith, is, ap length begins, length-take (length old) new)
+-- ---- what is told
 
-pub cut_again : (old new cut : List ℕ) (len : ℕ) → len ≡ length old → Begins old new → cut ≡ take len new → cut ≡ old
-cut_again old new cut len is begins cuts = cuts ∙ ap (λ n. take n new) is ∙ begins
-
--- ---- the text
-
-pub told_edited : (p q : Presentation) (b a e : Document) (moment : ℤ) (before after : List View) (old mid new : List ℕ) → b ≡ p.document → a ≡ q.document → e ≡ q.document → moment ≡ pos q.now → before ≡ views_of p → after ≡ views_of q → mid ≡ old ++ flat_map (λ (n : Node). gone_line moment (name_of n)) (filter (λ (n : Node). not (is_some (node_at a.nodes n.serial))) (elements b.nodes)) → new ≡ mid ++ flat_map (change_text e.nodes) (at_moment q.now (changed before after)) → new ≡ old ++ gone_text p q ++ text_of q (changes_between p q)
-told_edited p q b a e moment before after old mid new bs same_after shown ms befores afters gone diffs =
-    let g : flat_map (λ (n : Node). gone_line moment (name_of n)) (filter (λ (n : Node). not (is_some (node_at a.nodes n.serial))) (elements b.nodes)) ≡ gone_text p q =
-    ap (λ (d : Document). flat_map (λ (n : Node). gone_line moment (name_of n)) (filter (λ (n : Node). not (is_some (node_at a.nodes n.serial))) (elements d.nodes))) bs
-    ∙ ap (λ (d : Document). flat_map (λ (n : Node). gone_line moment (name_of n)) (filter (λ (n : Node). not (is_some (node_at d.nodes n.serial))) (elements p.document.nodes))) same_after
-    ∙ ap (λ (m : ℤ). flat_map (λ (n : Node). gone_line m (name_of n)) (filter (λ (n : Node). not (is_some (node_at q.document.nodes n.serial))) (elements p.document.nodes))) ms in
-    let t : flat_map (change_text e.nodes) (at_moment q.now (changed before after)) ≡ text_of q (changes_between p q) =
-    ap (λ (d : Document). flat_map (change_text d.nodes) (at_moment q.now (changed before after))) shown
-    ∙ ap (λ (vs : List View). flat_map (change_text q.document.nodes) (at_moment q.now (changed vs after))) befores
-    ∙ ap (λ (vs : List View). flat_map (change_text q.document.nodes) (at_moment q.now (changed (views_of p) vs))) afters in
-    diffs ∙ ap (λ m. m ++ flat_map (change_text e.nodes) (at_moment q.now (changed before after))) gone
-    ∙ ap (λ x. old ++ x ++ flat_map (change_text e.nodes) (at_moment q.now (changed before after))) g
-    ∙ ap (λ x. old ++ gone_text p q ++ x) t
+module _ {I : Type 0} (tell : Telling I) where
+  pub told_edited : (p q : Presentation) (b a e : Document) (moment : ℤ) (before after : List View) (old mid new : List I) → b ≡ p.document → a ≡ q.document → e ≡ q.document → moment ≡ pos q.now → before ≡ views_of p → after ≡ views_of q → mid ≡ old ++ flat_map (λ (n : Node). tell.gone moment (name_of n) n.serial) (filter (λ (n : Node). not (is_some (node_at a.nodes n.serial))) (elements b.nodes)) → new ≡ mid ++ flat_map (change_told tell e.nodes) (at_moment q.now (changed before after)) → new ≡ old ++ gone_told tell p q ++ told_of tell q (changes_between p q)
+  told_edited p q b a e moment before after old mid new bs same_after shown ms befores afters gone diffs =
+      let g : flat_map (λ (n : Node). tell.gone moment (name_of n) n.serial) (filter (λ (n : Node). not (is_some (node_at a.nodes n.serial))) (elements b.nodes)) ≡ gone_told tell p q =
+      ap (λ (d : Document). flat_map (λ (n : Node). tell.gone moment (name_of n) n.serial) (filter (λ (n : Node). not (is_some (node_at a.nodes n.serial))) (elements d.nodes))) bs
+      ∙ ap (λ (d : Document). flat_map (λ (n : Node). tell.gone moment (name_of n) n.serial) (filter (λ (n : Node). not (is_some (node_at d.nodes n.serial))) (elements p.document.nodes))) same_after
+      ∙ ap (λ (m : ℤ). flat_map (λ (n : Node). tell.gone m (name_of n) n.serial) (filter (λ (n : Node). not (is_some (node_at q.document.nodes n.serial))) (elements p.document.nodes))) ms in
+      let t : flat_map (change_told tell e.nodes) (at_moment q.now (changed before after)) ≡ told_of tell q (changes_between p q) =
+      ap (λ (d : Document). flat_map (change_told tell d.nodes) (at_moment q.now (changed before after))) shown
+      ∙ ap (λ (vs : List View). flat_map (change_told tell q.document.nodes) (at_moment q.now (changed vs after))) befores
+      ∙ ap (λ (vs : List View). flat_map (change_told tell q.document.nodes) (at_moment q.now (changed (views_of p) vs))) afters in
+      diffs ∙ ap (λ m. m ++ flat_map (change_told tell e.nodes) (at_moment q.now (changed before after))) gone
+      ∙ ap (λ x. old ++ x ++ flat_map (change_told tell e.nodes) (at_moment q.now (changed before after))) g
+      ∙ ap (λ x. old ++ gone_told tell p q ++ x) t

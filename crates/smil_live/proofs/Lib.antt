@@ -22,8 +22,10 @@ pub mod RebuiltLogs
 pub mod RebuiltParts
 pub mod RebuiltSame
 pub mod RebuiltSeek
+pub mod RecordLines
 pub mod Replays
 pub mod Resolved
+pub mod Screens
 pub mod Standings
 pub mod States
 pub mod Through

@@ -1,17 +1,18 @@
 -- Moves: what is shown behind one and told of it, and a presentation that goes on by one or back
 -- from it.
-use Rattle.std.proofs.Common.{◌≡◌, refl, sym, ◌∙◌, ap, subst, ℕ, List, ◌++◌, Some, None}
+use Rattle.std.proofs.Common.{◌≡◌, refl, sym, ◌∙◌, ap, subst, List, ◌++◌, Some, None}
 use Rattle.std.specs.Prelude.{Result, Ok, Err, OnOk}
 use Rattle.smil_model.specs.declared.diary.Entry.{Entry}
 use Rattle.smil_model.specs.declared.view.View.{View}
 use Rattle.smil_model.specs.document.Document.{Document}
 use Rattle.smil_model.specs.shown.Orders.{IsState, Presentation, changes_between, views_of}
+use Rattle.smil_report.specs.Tellings.{Telling}
 use Rattle.smil_cells.specs.Standings.{at_mark}
 use Rattle.smil_cells.specs.CellsState.{IsSettled, CellsState}
 use Rattle.smil_shown.specs.ShownViews.{IsPlaying, IsShown, views_at}
-use Rattle.smil_live.specs.Moves.{IsShownAt, text_of}
+use Rattle.smil_live.specs.Moves.{IsShownAt, told_of}
 use Rattle.smil_shown.specs.ViewTable.{ViewLists}
-use Rattle.smil_shown.specs.Told.{lines_between}
+use Rattle.smil_shown.specs.Told.{told_between}
 use Rattle.smil_live.proofs.Standings.{views_settled}
 
 -- ---- behind a move
@@ -24,21 +25,22 @@ shown_behind (Ok x) p s shown is state sound settled views = record {
   shown_is = record { state = state; sound = sound; settled = settled; views_are = views };
 }
 
-same_text : (old new : CellsState) (p : Presentation) (first : List View) → new.presentation ≡ p → p.document ≡ old.presentation.document → first ≡ views_at old → IsSettled old → IsSettled new
-    → lines_between new.presentation.document.nodes new.presentation.now first (views_at new) ≡ text_of old.presentation (changes_between old.presentation p)
-same_text old new p first is document views was settled =
-    ap (λ (vs : List View). lines_between new.presentation.document.nodes new.presentation.now vs (views_at new)) (views ∙ views_settled old was)
-    ∙ (ap (λ (vs : List View). lines_between new.presentation.document.nodes new.presentation.now (views_of old.presentation) vs) (views_settled new settled)
-    ∙ (ap (λ (q : Presentation). lines_between q.document.nodes q.now (views_of old.presentation) (views_of q)) is
-    ∙ ap (λ (d : Document). lines_between d.nodes p.now (views_of old.presentation) (views_of p)) document))
+module _ {I : Type 0} (tell : Telling I) where
+  same_told : (old new : CellsState) (p : Presentation) (first : List View) → new.presentation ≡ p → p.document ≡ old.presentation.document → first ≡ views_at old → IsSettled old → IsSettled new
+      → told_between tell new.presentation.document.nodes new.presentation.now first (views_at new) ≡ told_of tell old.presentation (changes_between old.presentation p)
+  same_told old new p first is document views was settled =
+      ap (λ (vs : List View). told_between tell new.presentation.document.nodes new.presentation.now vs (views_at new)) (views ∙ views_settled old was)
+      ∙ (ap (λ (vs : List View). told_between tell new.presentation.document.nodes new.presentation.now (views_of old.presentation) vs) (views_settled new settled)
+      ∙ (ap (λ (q : Presentation). told_between tell q.document.nodes q.now (views_of old.presentation) (views_of q)) is
+      ∙ ap (λ (d : Document). told_between tell d.nodes p.now (views_of old.presentation) (views_of p)) document))
 
-pub told_behind : {A E : Type 0} (r : Result A E) (old new : CellsState) (p : Presentation) (first : List View) (out out' : List ℕ) → new.presentation ≡ p → p.document ≡ old.presentation.document
-    → first ≡ views_at old → IsSettled old → IsSettled new
-    → OnOk r (out' ≡ out ++ lines_between new.presentation.document.nodes new.presentation.now first (views_at new))
-    → OnOk r (out' ≡ out ++ text_of old.presentation (changes_between old.presentation p))
-told_behind (Err e) old new p first out out' is document views was settled told = tt
-told_behind (Ok x) old new p first out out' is document views was settled told =
-    told ∙ ap (λ l. out ++ l) (same_text old new p first is document views was settled)
+  pub told_behind : {A E : Type 0} (r : Result A E) (old new : CellsState) (p : Presentation) (first : List View) (out out' : List I) → new.presentation ≡ p → p.document ≡ old.presentation.document
+      → first ≡ views_at old → IsSettled old → IsSettled new
+      → OnOk r (out' ≡ out ++ told_between tell new.presentation.document.nodes new.presentation.now first (views_at new))
+      → OnOk r (out' ≡ out ++ told_of tell old.presentation (changes_between old.presentation p))
+  told_behind (Err e) old new p first out out' is document views was settled told = tt
+  told_behind (Ok x) old new p first out out' is document views was settled told =
+      told ∙ ap (λ l. out ++ l) (same_told old new p first is document views was settled)
 
 -- ---- marks
 

@@ -11,13 +11,13 @@ use Rattle.smil_model.specs.document.Document.{Document}
 use Rattle.smil_model.specs.document.Valid.{IsNumberedTree}
 use Rattle.smil_model.specs.happening.Keys.{DueChange}
 use Rattle.smil_model.specs.happening.Resolution.{diary_of}
-use Rattle.smil_model.specs.shown.Answers.{change_text}
 use Rattle.smil_model.specs.shown.Orders.{Presentation, as_of, course_of, changes_between, changes_through}
+use Rattle.smil_report.specs.Tellings.{Telling, change_told}
 use Rattle.smil_cells.specs.CellsState.{NothingBefore, CellsState}
 use Rattle.smil_cells.proofs.OnWay.{sooner}
 use Rattle.smil_rounds.proofs.Moments.{over}
 use Rattle.smil_shown.specs.ShownViews.{IsShown}
-use Rattle.smil_live.specs.Moves.{IsFirstDue, IsShownAt, IsTooFull, text_of}
+use Rattle.smil_live.specs.Moves.{IsFirstDue, IsShownAt, IsTooFull, told_of}
 use Rattle.smil_shown.specs.ViewTable.{ViewLists}
 use Rattle.smil_live.proofs.Full.{full_later}
 use Rattle.smil_live.proofs.Quiet.{HasDiary, IsQuiet}
@@ -27,75 +27,76 @@ use Rattle.smil_live.proofs.Through.{in_two, through_quiet}
 
 -- ---- what was told
 
--- the lines of what is passed up to a moment, and then of what is different at a later one before
--- which nothing comes
-told_on : (p : Presentation) (a n : ℕ) (d : List Entry) (front text text' : List ℕ) → HasDiary (as_of p (p.now + a)) d → IsQuiet (as_of p (p.now + a)) d (pos ((p.now + a) + n))
-    → text ≡ front ++ text_of p (changes_through p a)
-    → text' ≡ text ++ text_of p (changes_between (as_of p (p.now + a)) (as_of p ((p.now + a) + n)))
-    → text' ≡ front ++ text_of p (changes_through p (a + n))
-told_on p a n d front text text' has quiet told new =
-    new
-    ∙ (ap (λ (l : List ℕ). l ++ text_of p (changes_between (as_of p (p.now + a)) (as_of p ((p.now + a) + n)))) told
-    ∙ (ap (λ (cs : List (ℕ × View)). (front ++ text_of p (changes_through p a)) ++ text_of p cs) (sym (through_quiet (as_of p (p.now + a)) d has n quiet))
-    ∙ (append_assoc front (text_of p (changes_through p a)) (text_of p (changes_through (as_of p (p.now + a)) n))
-    ∙ ap (λ (l : List ℕ). front ++ l) (sym (ap (text_of p) (in_two p a n) ∙ flat_map-append (change_text p.document.nodes) (changes_through p a) (changes_through (as_of p (p.now + a)) n))))))
+module _ {I : Type 0} (tell : Telling I) where
+  -- what is told of what is passed up to a moment, and then of what is different at a later one before
+  -- which nothing comes
+  told_on : (p : Presentation) (a n : ℕ) (d : List Entry) (front text text' : List I) → HasDiary (as_of p (p.now + a)) d → IsQuiet (as_of p (p.now + a)) d (pos ((p.now + a) + n))
+      → text ≡ front ++ told_of tell p (changes_through p a)
+      → text' ≡ text ++ told_of tell p (changes_between (as_of p (p.now + a)) (as_of p ((p.now + a) + n)))
+      → text' ≡ front ++ told_of tell p (changes_through p (a + n))
+  told_on p a n d front text text' has quiet told new =
+      new
+      ∙ (ap (λ (l : List I). l ++ told_of tell p (changes_between (as_of p (p.now + a)) (as_of p ((p.now + a) + n)))) told
+      ∙ (ap (λ (cs : List (ℕ × View)). (front ++ told_of tell p (changes_through p a)) ++ told_of tell p cs) (sym (through_quiet (as_of p (p.now + a)) d has n quiet))
+      ∙ (append_assoc front (told_of tell p (changes_through p a)) (told_of tell p (changes_through (as_of p (p.now + a)) n))
+      ∙ ap (λ (l : List I). front ++ l) (sym (ap (told_of tell p) (in_two p a n) ∙ flat_map-append (change_told tell p.document.nodes) (changes_through p a) (changes_through (as_of p (p.now + a)) n))))))
 
-built : (p q : Presentation) (a : ℕ) → q ≡ as_of p q.now → p.now + a ≡ q.now → as_of p (p.now + a) ≡ q
-built p q a is there = ap (as_of p) there ∙ sym is
+  built : (p q : Presentation) (a : ℕ) → q ≡ as_of p q.now → p.now + a ≡ q.now → as_of p (p.now + a) ≡ q
+  built p q a is there = ap (as_of p) there ∙ sym is
 
--- the same where the later presentation has a name of its own
-pub told_from : (p q : Presentation) (a n : ℕ) (d : List Entry) (front text text' : List ℕ) → q ≡ as_of p q.now → p.now + a ≡ q.now → HasDiary q d → IsQuiet q d (pos (q.now + n))
-    → text ≡ front ++ text_of p (changes_through p a)
-    → text' ≡ text ++ text_of q (changes_between q (as_of q (q.now + n)))
-    → text' ≡ front ++ text_of p (changes_through p (a + n))
-told_from p q a n d front text text' is there =
-    subst (λ (x : Presentation). HasDiary x d → IsQuiet x d (pos (x.now + n)) → text ≡ front ++ text_of p (changes_through p a) → text' ≡ text ++ text_of x (changes_between x (as_of x (x.now + n))) → text' ≡ front ++ text_of p (changes_through p (a + n)))
-    (built p q a is there)
-    (told_on p a n d front text text')
+  -- the same where the later presentation has a name of its own
+  pub told_from : (p q : Presentation) (a n : ℕ) (d : List Entry) (front text text' : List I) → q ≡ as_of p q.now → p.now + a ≡ q.now → HasDiary q d → IsQuiet q d (pos (q.now + n))
+      → text ≡ front ++ told_of tell p (changes_through p a)
+      → text' ≡ text ++ told_of tell q (changes_between q (as_of q (q.now + n)))
+      → text' ≡ front ++ told_of tell p (changes_through p (a + n))
+  told_from p q a n d front text text' is there =
+      subst (λ (x : Presentation). HasDiary x d → IsQuiet x d (pos (x.now + n)) → text ≡ front ++ told_of tell p (changes_through p a) → text' ≡ text ++ told_of tell x (changes_between x (as_of x (x.now + n))) → text' ≡ front ++ told_of tell p (changes_through p (a + n)))
+      (built p q a is there)
+      (told_on p a n d front text text')
 
--- ---- on the way
+  -- ---- on the way
 
--- a presentation was passed through up to the moment of a standing, and this is what is shown there
--- and was told by then
-pub record IsPassing (p : Presentation) (front : List ℕ) (to : ℤ) (s : CellsState) (shown : ViewLists) (text : List ℕ) : Type 0 where
-  pub presentation_is : s.presentation ≡ as_of p s.presentation.now
-  pub from : p.now ≤ s.presentation.now
-  pub within : pos s.presentation.now ≤ℤ to
-  pub shown_is : IsShown s shown
-  pub told : text ≡ front ++ text_of p (changes_through p (s.presentation.now - p.now))
+  -- a presentation was passed through up to the moment of a standing, and this is what is shown there
+  -- and was told by then
+  pub record IsPassing (p : Presentation) (front : List I) (to : ℤ) (s : CellsState) (shown : ViewLists) (text : List I) : Type 0 where
+    pub presentation_is : s.presentation ≡ as_of p s.presentation.now
+    pub from : p.now ≤ s.presentation.now
+    pub within : pos s.presentation.now ≤ℤ to
+    pub shown_is : IsShown s shown
+    pub told : text ≡ front ++ told_of tell p (changes_through p (s.presentation.now - p.now))
 
-pub sets_out : (s : CellsState) (shown : ViewLists) (text : List ℕ) (to : ℤ) → IsShown s shown → pos s.presentation.now ≤ℤ to → IsPassing s.presentation text to s shown text
-sets_out s shown text to is within = record {
-  presentation_is = refl;
-  from = omega arith;
-  within = within;
-  shown_is = is;
-  told = sym (ap (λ (n : ℕ). text ++ text_of s.presentation (changes_through s.presentation n)) none ∙ append-nil text);
-}
-  where
-    none : s.presentation.now - s.presentation.now ≡ 0
-    none = omega arith
+  pub sets_out : (s : CellsState) (shown : ViewLists) (text : List I) (to : ℤ) → IsShown s shown → pos s.presentation.now ≤ℤ to → IsPassing s.presentation text to s shown text
+  sets_out s shown text to is within = record {
+    presentation_is = refl;
+    from = omega arith;
+    within = within;
+    shown_is = is;
+    told = sym (ap (λ (n : ℕ). text ++ told_of tell s.presentation (changes_through s.presentation n)) none ∙ append-nil text);
+  }
+    where
+      none : s.presentation.now - s.presentation.now ≡ 0
+      none = omega arith
 
-module _ {p : Presentation} {front : List ℕ} {to : ℤ} {s : CellsState} {shown : ViewLists} {text : List ℕ} (way : IsPassing p front to s shown text) where
+module _ {I : Type 0} {tell : Telling I} {p : Presentation} {front : List I} {to : ℤ} {s : CellsState} {shown : ViewLists} {text : List I} (way : IsPassing tell p front to s shown text) where
   -- the moved presentation
   pub moved_is : (m : ℕ) → as_of s.presentation m ≡ as_of p m
   moved_is m = ap (λ (q : Presentation). as_of q m) way.presentation_is
 
-  module _ {text' : List ℕ} {v : ℤ} (from : pos s.presentation.now ≤ℤ v) (quiet : NothingBefore s v)
-      (new : text' ≡ text ++ text_of s.presentation (changes_between s.presentation (as_of s.presentation (nat_abs v)))) where
-    told_then : text' ≡ front ++ text_of p (changes_through p (nat_abs v - p.now))
+  module _ {text' : List I} {v : ℤ} (from : pos s.presentation.now ≤ℤ v) (quiet : NothingBefore s v)
+      (new : text' ≡ text ++ told_of tell s.presentation (changes_between s.presentation (as_of s.presentation (nat_abs v)))) where
+    told_then : text' ≡ front ++ told_of tell p (changes_through p (nat_abs v - p.now))
     told_then = by_number (over s.presentation.now v from)
       where
-        by_number : (n : ℕ) × (v ≡ pos (s.presentation.now + n)) → text' ≡ front ++ text_of p (changes_through p (nat_abs v - p.now))
+        by_number : (n : ℕ) × (v ≡ pos (s.presentation.now + n)) → text' ≡ front ++ told_of tell p (changes_through p (nat_abs v - p.now))
         by_number (n, e) =
             let on = way.from in
             let here : nat_abs v ≡ s.presentation.now + n = ap nat_abs e in
             let first : p.now + (s.presentation.now - p.now) ≡ s.presentation.now = omega (arith, on) in
             let whole : (s.presentation.now - p.now) + n ≡ nat_abs v - p.now = omega (arith, on, here) in
-            subst (λ (m : ℕ). text' ≡ front ++ text_of p (changes_through p m)) whole
-            (told_from p s.presentation (s.presentation.now - p.now) n s.diary front text text' way.presentation_is first (has_diary s shown way.shown_is)
+            subst (λ (m : ℕ). text' ≡ front ++ told_of tell p (changes_through p m)) whole
+            (told_from tell p s.presentation (s.presentation.now - p.now) n s.diary front text text' way.presentation_is first (has_diary s shown way.shown_is)
             (subst (λ (x : ℤ). NothingBefore s x) e quiet) way.told
-            (subst (λ (m : ℕ). text' ≡ text ++ text_of s.presentation (changes_between s.presentation (as_of s.presentation m))) here new))
+            (subst (λ (m : ℕ). text' ≡ text ++ told_of tell s.presentation (changes_between s.presentation (as_of s.presentation m))) here new))
 
   module _ {due : ℤ} (first : IsFirstDue s due) where
     due_later : (pos s.presentation.now +ℤ pos 1) ≤ℤ due
@@ -113,8 +114,8 @@ module _ {p : Presentation} {front : List ℕ} {to : ℤ} {s : CellsState} {show
         no_less : (x y : ℤ) → y ≡ x → x ≤ℤ y
         no_less x y e = omega (arith, ints, e)
 
-    module _ (within : due ≤ℤ to) {next : CellsState} {shown' : ViewLists} {text' : List ℕ} (is : IsShownAt (as_of s.presentation (nat_abs due)) next shown')
-        (new : text' ≡ text ++ text_of s.presentation (changes_between s.presentation (as_of s.presentation (nat_abs due)))) where
+    module _ (within : due ≤ℤ to) {next : CellsState} {shown' : ViewLists} {text' : List I} (is : IsShownAt (as_of s.presentation (nat_abs due)) next shown')
+        (new : text' ≡ text ++ told_of tell s.presentation (changes_between s.presentation (as_of s.presentation (nat_abs due)))) where
       at_due : next.presentation ≡ as_of p (nat_abs due)
       at_due = is.presentation_is ∙ moved_is (nat_abs due)
 
@@ -125,13 +126,13 @@ module _ {p : Presentation} {front : List ℕ} {to : ℤ} {s : CellsState} {show
       due_is = not_below s.presentation.now due due_from
 
       -- one due moment further
-      pub passes_on : IsPassing p front to next shown' text'
+      pub passes_on : IsPassing tell p front to next shown' text'
       passes_on = record {
         presentation_is = at_due ∙ ap (as_of p) (sym now_is);
         from = let a = way.from in let b = due_later in numbers p.now s.presentation.now next.presentation.now due a b (ap pos now_is ∙ due_is);
         within = subst (λ (x : ℤ). x ≤ℤ to) (sym (ap pos now_is ∙ due_is)) within;
         shown_is = is.shown_is;
-        told = subst (λ (m : ℕ). text' ≡ front ++ text_of p (changes_through p (m - p.now))) (sym now_is) (told_then due_from quiet_until new);
+        told = subst (λ (m : ℕ). text' ≡ front ++ told_of tell p (changes_through p (m - p.now))) (sym now_is) (told_then due_from quiet_until new);
       }
         where
           numbers : (a b c : ℕ) (x : ℤ) → a ≤ b → (pos b +ℤ pos 1) ≤ℤ x → pos c ≡ x → a ≤ c
@@ -169,5 +170,5 @@ module _ {p : Presentation} {front : List ℕ} {to : ℤ} {s : CellsState} {show
     quiet_to : NothingBefore s to
     quiet_to c e = sooner to c.key.value (silence c e)
 
-    pub arrives : {text' : List ℕ} → text' ≡ text ++ text_of s.presentation (changes_between s.presentation (as_of s.presentation (nat_abs to))) → text' ≡ front ++ text_of p (changes_through p (nat_abs to - p.now))
+    pub arrives : {text' : List I} → text' ≡ text ++ told_of tell s.presentation (changes_between s.presentation (as_of s.presentation (nat_abs to))) → text' ≡ front ++ told_of tell p (changes_through p (nat_abs to - p.now))
     arrives new = told_then way.within quiet_to new

@@ -7,23 +7,23 @@ use Rattle.smil_model.specs.declared.view.View.{View}
 use Rattle.smil_model.specs.document.Document.{Document}
 use Rattle.smil_model.specs.document.Valid.{IsValid}
 use Rattle.smil_model.specs.happening.Resolution.{diary_of}
-use Rattle.smil_model.specs.shown.Answers.{load_text}
+use Rattle.smil_report.specs.Tellings.{Telling, load_told}
 use Rattle.smil_model.specs.shown.Orders.{IsState, Presentation, course_of, opened, views_of}
 use Rattle.smil_cells.specs.CellsState.{IsSettled, CellsState}
 use Rattle.smil_shown.specs.ShownViews.{views_at}
 use Rattle.smil_live.specs.Moves.{IsReplayed, IsTooFull}
-use Rattle.smil_shown.specs.Told.{lines_between}
+use Rattle.smil_shown.specs.Told.{told_between}
 use Rattle.smil_live.proofs.Resolved.{has_room, no_room}
 use Rattle.smil_live.proofs.Standings.{views_settled}
 
--- the lines of what is shown first
-pub told_load : (s : CellsState) (d : Document) (before after : List View) (m : ℕ) (old new : List ℕ) → IsSettled s → d ≡ s.presentation.document → before ≡ [] → after ≡ views_at s → m ≡ s.presentation.now → new ≡ old ++ lines_between d.nodes m before after → new ≡ old ++ load_text s.presentation
-told_load s d before after m old new settled same none seen moment told =
+-- what is told of what is shown first
+pub told_load : {I : Type 0} (tell : Telling I) (s : CellsState) (d : Document) (before after : List View) (m : ℕ) (old new : List I) → IsSettled s → d ≡ s.presentation.document → before ≡ [] → after ≡ views_at s → m ≡ s.presentation.now → new ≡ old ++ told_between tell d.nodes m before after → new ≡ old ++ load_told tell s.presentation
+told_load tell s d before after m old new settled same none seen moment told =
     told
-    ∙ ap (λ (e : Document). old ++ lines_between e.nodes m before after) same
-    ∙ ap (λ (vs : List View). old ++ lines_between s.presentation.document.nodes m vs after) none
-    ∙ ap (λ (vs : List View). old ++ lines_between s.presentation.document.nodes m [] vs) (seen ∙ views_settled s settled)
-    ∙ ap (λ (t : ℕ). old ++ lines_between s.presentation.document.nodes t [] (views_of s.presentation)) moment
+    ∙ ap (λ (e : Document). old ++ told_between tell e.nodes m before after) same
+    ∙ ap (λ (vs : List View). old ++ told_between tell s.presentation.document.nodes m vs after) none
+    ∙ ap (λ (vs : List View). old ++ told_between tell s.presentation.document.nodes m [] vs) (seen ∙ views_settled s settled)
+    ∙ ap (λ (t : ℕ). old ++ told_between tell s.presentation.document.nodes t [] (views_of s.presentation)) moment
 
 -- a document at moment 0, with an empty log
 abbrev pub first_of : Document → Presentation

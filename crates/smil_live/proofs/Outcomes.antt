@@ -28,16 +28,16 @@ use Rattle.smil_model.specs.diary.Logs.{is_log, is_logged_by, is_serial, may_hap
 use Rattle.smil_model.specs.document.Values.{is_clock}
 use Rattle.smil_model.specs.document.Words.{is_event_name, is_raised_name}
 use Rattle.smil_model.specs.happening.Resolution.{diary_of}
-use Rattle.smil_model.specs.shown.Answers.{Accepts, Refuses, answer_text, change_text, gone_text}
-use Rattle.smil_model.specs.shown.Lines.{gone_line, name_of}
+use Rattle.smil_model.specs.shown.Answers.{Refuses}
 use Rattle.smil_model.specs.shown.Orders.{IsState, Presentation, and_then, at_moment_with, changes_between, changes_through, course_of, found, kept_where, node_of, outcome, unless, unless_too_full, with_logged as logged_within, as_of}
+use Rattle.smil_report.specs.Tellings.{Telling, Tells, change_told, gone_told, nodes_gone, order_told}
 use Rattle.smil_grammar.specs.Formats.{formats}
 use Rattle.smil_model.proofs.Orders.{le_from}
 use Rattle.smil_laws.proofs.Aside.{find_each}
 use Rattle.smil_tree.proofs.Spans.{all_known}
 use Rattle.smil_cells.specs.CellsState.{CellsState, with_logged}
 use Rattle.smil_rounds.proofs.Heeded.{first_is_log}
-use Rattle.smil_live.specs.Moves.{IsHeardBy, IsNotHeard, IsReplayed, IsTooFull, entry_of, sought_of, text_of}
+use Rattle.smil_live.specs.Moves.{IsHeardBy, IsNotHeard, IsReplayed, IsTooFull, entry_of, sought_of, told_of}
 use Rattle.smil_live.specs.Telling.{element_named}
 use Rattle.smil_shown.proofs.Apart.{found_each}
 use Rattle.smil_live.proofs.Growth.{is_appended}
@@ -124,7 +124,7 @@ at_moment_full p m log within none =
     ap (λ (t : Bool). and_then (unless (not t) refusal.BeyondHorizon (record { document = p.document; log = log; now = m })) (unless_too_full limits)) within
     ∙ ap (kept_where (record { document = p.document; log = log; now = m })) none
 
--- ---- texts
+-- ---- what is told
 
 -- no element is gone from a document that stays
 all_stay : (all ns : List Node) → AllByRecursion (λ (n : Node). IsSome (node_at all n.serial)) ns → filter (λ (n : Node). not (is_some (node_at all n.serial))) (elements ns) ≡ []
@@ -136,19 +136,20 @@ all_stay all (n ∷ ns) h = by_element (is_element n) (all_stay all ns h.1)
         ap (λ (s : Bool). cond (not s) (n ∷ filter (λ (m : Node). not (is_some (node_at all m.serial))) (elements ns)) (filter (λ (m : Node). not (is_some (node_at all m.serial))) (elements ns))) h.0 ∙ rest
     by_element false rest = rest
 
-pub none_gone : (p q : Presentation) → q.document ≡ p.document → gone_text p q ≡ []
-none_gone p q same =
-    ap (λ (d : Document). gone_text p (record { document = d; log = q.log; now = q.now })) same
-    ∙ ap (λ (ns : List Node). flat_map (λ (n : Node). gone_line (pos q.now) (name_of n)) ns) (all_stay p.document.nodes p.document.nodes (found_each p.document.nodes))
+module _ {I : Type 0} (tell : Telling I) where
+  pub none_gone : (p q : Presentation) → q.document ≡ p.document → gone_told tell p q ≡ []
+  none_gone p q same =
+      ap (λ (d : Document). gone_told tell p (record { document = d; log = q.log; now = q.now })) same
+      ∙ ap (λ (ns : List Node). nodes_gone tell (pos q.now) ns) (all_stay p.document.nodes p.document.nodes (found_each p.document.nodes))
 
--- only changes are told
-pub told_alone : (p q : Presentation) (changes : List (ℕ × View)) (text : List ℕ) → q.document ≡ p.document → text ≡ text_of p changes → text ≡ gone_text p q ++ flat_map (change_text q.document.nodes) changes
-told_alone p q changes text same told =
-    told
-    ∙ ap (λ (d : Document). flat_map (change_text d.nodes) changes) (sym same)
-    ∙ ap (λ (l : List ℕ). l ++ flat_map (change_text q.document.nodes) changes) (sym (none_gone p q same))
+  -- only changes are told
+  pub told_alone : (p q : Presentation) (changes : List (ℕ × View)) (text : List I) → q.document ≡ p.document → text ≡ told_of tell p changes → text ≡ gone_told tell p q ++ flat_map (change_told tell q.document.nodes) changes
+  told_alone p q changes text same told =
+      told
+      ∙ ap (λ (d : Document). flat_map (change_told tell d.nodes) changes) (sym same)
+      ∙ ap (λ (l : List I). l ++ flat_map (change_told tell q.document.nodes) changes) (sym (none_gone p q same))
 
-cut_off : (old new more : List ℕ) → new ≡ old ++ more → drop (length old) new ≡ more
+cut_off : {A : Type 0} (old new more : List A) → new ≡ old ++ more → drop (length old) new ≡ more
 cut_off old new more is = ap (drop (length old)) is ∙ drop-append_seam old more
 
 -- ---- numbers
@@ -167,21 +168,22 @@ moved_by n (negsuc k) to from e = absurd (omega (arith, ints, from))
 
 -- ---- orders that move on
 
-advanced_by : (p q : Presentation) (by : ℤ) (old new : List ℕ) → q ≡ as_of p (p.now + nat_abs by) → IsState q → IsSome (diary_of (course_of q)) → new ≡ old ++ text_of p (changes_through p (nat_abs by)) → Accepts formats p q (order.Advance by) (drop (length old) new)
-advanced_by p q by old new is state' some told =
-    let within : int_le (pos (p.now + nat_abs by)) HORIZON ≡ true = subst (λ (r : Presentation). int_le (pos r.now) HORIZON ≡ true) is state'.now in
-    let diary : IsSome (diary_of (course_of (as_of p (p.now + nat_abs by)))) = subst (λ (r : Presentation). IsSome (diary_of (course_of r))) is some in
-    record {
-      state = at_moment_ok p (p.now + nat_abs by) p.log within diary ∙ ap Ok (sym is);
-      answer =
-          told_alone p q (changes_through p (nat_abs by)) (drop (length old) new) (ap (λ (r : Presentation). r.document) is)
-          (cut_off old new (text_of p (changes_through p (nat_abs by))) told);
-    }
+module _ {I : Type 0} (tell : Telling I) where
+  advanced_by : (p q : Presentation) (by : ℤ) (old new : List I) → q ≡ as_of p (p.now + nat_abs by) → IsState q → IsSome (diary_of (course_of q)) → new ≡ old ++ told_of tell p (changes_through p (nat_abs by)) → Tells tell formats p q (order.Advance by) (drop (length old) new)
+  advanced_by p q by old new is state' some told =
+      let within : int_le (pos (p.now + nat_abs by)) HORIZON ≡ true = subst (λ (r : Presentation). int_le (pos r.now) HORIZON ≡ true) is state'.now in
+      let diary : IsSome (diary_of (course_of (as_of p (p.now + nat_abs by)))) = subst (λ (r : Presentation). IsSome (diary_of (course_of r))) is some in
+      record {
+        state = at_moment_ok p (p.now + nat_abs by) p.log within diary ∙ ap Ok (sym is);
+        answer =
+            told_alone tell p q (changes_through p (nat_abs by)) (drop (length old) new) (ap (λ (r : Presentation). r.document) is)
+            (cut_off old new (told_of tell p (changes_through p (nat_abs by))) told);
+      }
 
-pub advanced_to : (p q : Presentation) (by to : ℤ) (old new : List ℕ) → pos 0 ≤ℤ by → to ≡ pos p.now +ℤ by → q ≡ as_of p (nat_abs to) → IsState q → IsSome (diary_of (course_of q)) → new ≡ old ++ text_of p (changes_through p (nat_abs to - p.now)) → Accepts formats p q (order.Advance by) (drop (length old) new)
-advanced_to p q by to old new from there is state' some told =
-    let sums = moved_by p.now by to from there in
-    advanced_by p q by old new (is ∙ ap (as_of p) sums.0) state' some (told ∙ ap (λ (k : ℕ). old ++ text_of p (changes_through p k)) sums.1)
+  pub advanced_to : (p q : Presentation) (by to : ℤ) (old new : List I) → pos 0 ≤ℤ by → to ≡ pos p.now +ℤ by → q ≡ as_of p (nat_abs to) → IsState q → IsSome (diary_of (course_of q)) → new ≡ old ++ told_of tell p (changes_through p (nat_abs to - p.now)) → Tells tell formats p q (order.Advance by) (drop (length old) new)
+  advanced_to p q by to old new from there is state' some told =
+      let sums = moved_by p.now by to from there in
+      advanced_by p q by old new (is ∙ ap (as_of p) sums.0) state' some (told ∙ ap (λ (k : ℕ). old ++ told_of tell p (changes_through p k)) sums.1)
 
 -- a log of which no entry is later is left whole
 all_left : (m : ℤ) (log : List LogEntry) → is_logged_by m log ≡ true → filter (λ (x : LogEntry). int_le x.moment m) log ≡ log
@@ -224,39 +226,41 @@ sought_state p log len to state clock logs first =
       now = within_sought to clock;
     }
 
-pub sought : (p q : Presentation) (to : ℤ) (old new : List ℕ) → q ≡ sought_of p to → IsState q → IsSome (diary_of (course_of q)) → new ≡ old ++ text_of p (changes_between p q) → Accepts formats p q (order.Seek to) (drop (length old) new)
-sought p q to old new is state' some told =
-    let left = filter (λ (x : LogEntry). int_le x.moment (pos (nat_abs to))) p.log in
-    let within : int_le (pos (nat_abs to)) HORIZON ≡ true = subst (λ (r : Presentation). int_le (pos r.now) HORIZON ≡ true) is state'.now in
-    let diary : IsSome (diary_of (course_of (record { document = p.document; log = left; now = nat_abs to }))) = subst (λ (r : Presentation). IsSome (diary_of (course_of r))) is some in
-    record {
-      state = at_moment_ok p (nat_abs to) left within diary ∙ ap Ok (sym is);
-      answer =
-          told_alone p q (changes_between p q) (drop (length old) new) (ap (λ (r : Presentation). r.document) is)
-          (cut_off old new (text_of p (changes_between p q)) told);
-    }
+module _ {I : Type 0} (tell : Telling I) where
+  pub sought : (p q : Presentation) (to : ℤ) (old new : List I) → q ≡ sought_of p to → IsState q → IsSome (diary_of (course_of q)) → new ≡ old ++ told_of tell p (changes_between p q) → Tells tell formats p q (order.Seek to) (drop (length old) new)
+  sought p q to old new is state' some told =
+      let left = filter (λ (x : LogEntry). int_le x.moment (pos (nat_abs to))) p.log in
+      let within : int_le (pos (nat_abs to)) HORIZON ≡ true = subst (λ (r : Presentation). int_le (pos r.now) HORIZON ≡ true) is state'.now in
+      let diary : IsSome (diary_of (course_of (record { document = p.document; log = left; now = nat_abs to }))) = subst (λ (r : Presentation). IsSome (diary_of (course_of r))) is some in
+      record {
+        state = at_moment_ok p (nat_abs to) left within diary ∙ ap Ok (sym is);
+        answer =
+            told_alone tell p q (changes_between p q) (drop (length old) new) (ap (λ (r : Presentation). r.document) is)
+            (cut_off old new (told_of tell p (changes_between p q)) told);
+      }
 
 pub not_sought : (p q : Presentation) (to : ℤ) (given : Refusal) → q ≡ sought_of p to → int_le (pos (nat_abs to)) HORIZON ≡ true → IsTooFull q given → Refuses formats p (order.Seek to) given
 not_sought p q to given is within (inl memory) = inl memory
 not_sought p q to given is within (inr (full, none)) =
     inr (at_moment_full p (nat_abs to) (filter (λ (x : LogEntry). int_le x.moment (pos (nat_abs to))) p.log) within (subst (λ (r : Presentation). diary_of (course_of r) ≡ None) is none) ∙ ap Err (sym full))
 
-pub sought_anew : (p q : Presentation) (s : CellsState) (to : ℤ) (old new : List ℕ) → IsState (sought_of p to) → IsReplayed (sought_of p to) s → q ≡ s.presentation → new ≡ old ++ gone_text p s.presentation ++ text_of s.presentation (changes_between p s.presentation) → Accepts formats p q (order.Seek to) (drop (length old) new)
-sought_anew p q s to old new there is e told =
-    let at = is.presentation_is in
-    let here : q ≡ sought_of p to = e ∙ at in
-    let diary : IsSome (diary_of (course_of q)) = subst (λ (r : Presentation). IsSome (diary_of (course_of r))) (sym e) (ap is_some is.settled) in
-    let all : new ≡ old ++ gone_text p (sought_of p to) ++ text_of p (changes_between p (sought_of p to)) =
-    subst (λ (r : Presentation). new ≡ old ++ gone_text p r ++ text_of r (changes_between p r)) at told in
-    let lines : new ≡ old ++ text_of p (changes_between p (sought_of p to)) =
-    all
-    ∙ ap (λ (t : List ℕ). old ++ t ++ text_of p (changes_between p (sought_of p to))) (none_gone p (sought_of p to) refl)
-    ∙ ap (λ (t : List ℕ). t ++ text_of p (changes_between p (sought_of p to))) (append-nil old) in
-    sought p q to old new here (subst IsState (sym here) there) diary
-    (lines ∙ ap (λ (r : Presentation). old ++ text_of p (changes_between p r)) (sym here))
+module _ {I : Type 0} (tell : Telling I) where
+  pub sought_anew : (p q : Presentation) (s : CellsState) (to : ℤ) (old new : List I) → IsState (sought_of p to) → IsReplayed (sought_of p to) s → q ≡ s.presentation → new ≡ old ++ gone_told tell p s.presentation ++ told_of tell s.presentation (changes_between p s.presentation) → Tells tell formats p q (order.Seek to) (drop (length old) new)
+  sought_anew p q s to old new there is e told =
+      let at = is.presentation_is in
+      let here : q ≡ sought_of p to = e ∙ at in
+      let diary : IsSome (diary_of (course_of q)) = subst (λ (r : Presentation). IsSome (diary_of (course_of r))) (sym e) (ap is_some is.settled) in
+      let all : new ≡ old ++ gone_told tell p (sought_of p to) ++ told_of tell p (changes_between p (sought_of p to)) =
+      subst (λ (r : Presentation). new ≡ old ++ gone_told tell p r ++ told_of tell r (changes_between p r)) at told in
+      let lines : new ≡ old ++ told_of tell p (changes_between p (sought_of p to)) =
+      all
+      ∙ ap (λ (t : List I). old ++ t ++ told_of tell p (changes_between p (sought_of p to))) (none_gone tell p (sought_of p to) refl)
+      ∙ ap (λ (t : List I). t ++ told_of tell p (changes_between p (sought_of p to))) (append-nil old) in
+      sought tell p q to old new here (subst IsState (sym here) there) diary
+      (lines ∙ ap (λ (r : Presentation). old ++ told_of tell p (changes_between p r)) (sym here))
 
 -- what was appended in two parts
-pub appended_both : {T E : Type 0} (r : Result T E) (old new first second : List ℕ) → OnOk r (new ≡ old ++ first ++ second) → OnOk r (new ≡ old ++ drop (length old) new)
+pub appended_both : {T E : Type 0} (r : Result T E) {A : Type 0} (old new first second : List A) → OnOk r (new ≡ old ++ first ++ second) → OnOk r (new ≡ old ++ drop (length old) new)
 appended_both (Ok x) old new first second is = is_appended old new (first ++ second) (is ∙ append_assoc old first second)
 appended_both (Err e) old new first second is = tt
 
@@ -267,15 +271,16 @@ on_both (Err e) f p q = tt
 
 -- ---- what came from outside
 
-pub heard_as : (p q : Presentation) (what : Happening) (old new : List ℕ) → length p.log < LOG_ENTRIES → q ≡ with_logged p (entry_of p what) → IsSome (diary_of (course_of q)) → new ≡ old ++ text_of p (changes_between p (with_logged p (entry_of p what))) → IsHeardBy p what q (drop (length old) new)
-heard_as p q what old new room is some told =
-    let diary : IsSome (diary_of (course_of (with_logged p (entry_of p what)))) = subst (λ (r : Presentation). IsSome (diary_of (course_of r))) is some in
-    record {
-      state =
-          ap (λ (t : Bool). and_then (unless (not t) refusal.LogFull (with_logged p (entry_of p what))) (unless_too_full limits)) (lt-ltb (length p.log) LOG_ENTRIES room)
-          ∙ (has_diary (with_logged p (entry_of p what)) diary ∙ ap Ok (sym is));
-      told = cut_off old new (text_of p (changes_between p (with_logged p (entry_of p what)))) told ∙ ap (λ (r : Presentation). text_of p (changes_between p r)) (sym is);
-    }
+module _ {I : Type 0} (tell : Telling I) where
+  pub heard_as : (p q : Presentation) (what : Happening) (old new : List I) → length p.log < LOG_ENTRIES → q ≡ with_logged p (entry_of p what) → IsSome (diary_of (course_of q)) → new ≡ old ++ told_of tell p (changes_between p (with_logged p (entry_of p what))) → IsHeardBy tell p what q (drop (length old) new)
+  heard_as p q what old new room is some told =
+      let diary : IsSome (diary_of (course_of (with_logged p (entry_of p what)))) = subst (λ (r : Presentation). IsSome (diary_of (course_of r))) is some in
+      record {
+        state =
+            ap (λ (t : Bool). and_then (unless (not t) refusal.LogFull (with_logged p (entry_of p what))) (unless_too_full limits)) (lt-ltb (length p.log) LOG_ENTRIES room)
+            ∙ (has_diary (with_logged p (entry_of p what)) diary ∙ ap Ok (sym is));
+        told_is = cut_off old new (told_of tell p (changes_between p (with_logged p (entry_of p what)))) told ∙ ap (λ (r : Presentation). told_of tell p (changes_between p r)) (sym is);
+      }
 
 pub may_event : (s : ℕ) (given name : List ℕ) → is_serial s ≡ true → given ≡ name → (is_event_name name && not (is_raised_name name)) ≡ true → may_happen (happening.Event s given) ≡ true
 may_event s given name serial alike is =
@@ -299,13 +304,14 @@ heard_document p q what e = by_room (nat_lt (length p.log) LOG_ENTRIES) e
     by_room true e = by_diary (diary_of (course_of (with_logged p (entry_of p what)))) e
     by_room false e = cc
 
--- an order that comes to what is heard
-pub heard_answered : (p q : Presentation) (o : Order) (what : Happening) (text : List ℕ) → outcome formats p o ≡ logged_within limits p what
-    → answer_text formats p q o ≡ gone_text p q ++ flat_map (change_text q.document.nodes) (changes_between p q) → IsHeardBy p what q text → Accepts formats p q o text
-heard_answered p q o what text is answer heard = record {
-  state = is ∙ heard.state;
-  answer = told_alone p q (changes_between p q) text (heard_document p q what heard.state) heard.told ∙ sym answer;
-}
+module _ {I : Type 0} (tell : Telling I) where
+  -- an order that comes to what is heard
+  pub heard_answered : (p q : Presentation) (o : Order) (what : Happening) (text : List I) → outcome formats p o ≡ logged_within limits p what
+      → order_told tell p q o ≡ gone_told tell p q ++ flat_map (change_told tell q.document.nodes) (changes_between p q) → IsHeardBy tell p what q text → Tells tell formats p q o text
+  heard_answered p q o what text is answer heard = record {
+    state = is ∙ heard.state;
+    answer = told_alone tell p q (changes_between p q) text (heard_document p q what heard.state) heard.told_is ∙ sym answer;
+  }
 
 pub not_heard : (p : Presentation) (o : Order) (what : Happening) (r : Refusal) → outcome formats p o ≡ logged_within limits p what → IsNotHeard p what r → Refuses formats p o r
 not_heard p o what r is (inl memory) = inl memory

@@ -19,6 +19,7 @@ use Rattle.smil_model.specs.shown.Orders.{Formats, Presentation, at_moment, reso
 use Rattle.smil_model.specs.shown.Sandwich.{layers, stack_of}
 use Rattle.smil_model.specs.document.Words.{Begins}
 use Rattle.smil_past.proofs.References.{kept_known as kept_found}
+use Rattle.smil_report.specs.Tellings.{as_text}
 use Rattle.smil_cells.specs.CellsState.{IsSettled, CellsState, history_of}
 use Rattle.smil_shown.specs.ShownViews.{IsPlaying}
 use Rattle.smil_shown.specs.ViewTable.{ViewLists}
@@ -53,7 +54,7 @@ shown_text : (p : Presentation) (d : Document) (vs : List View) → d ≡ p.docu
 shown_text p d vs same is =
     ap (λ (x : Document). flat_map (change_text x.nodes) (at_moment p.now vs)) same
     ∙ ap (λ (ws : List View). flat_map (change_text p.document.nodes) (at_moment p.now ws)) is
-    ∙ ap (λ (t : List ℕ). t ++ flat_map (change_text p.document.nodes) (at_moment p.now (views_of p))) (sym (none_gone p p refl))
+    ∙ ap (λ (t : List ℕ). t ++ flat_map (change_text p.document.nodes) (at_moment p.now (views_of p))) (sym (none_gone as_text p p refl))
 
 pub shown_answer : (p : Presentation) (d : Document) (vs : List View) (out new : List ℕ) → d ≡ p.document → vs ≡ views_of p → new ≡ out ++ flat_map (change_text d.nodes) (at_moment p.now vs)
     → new ≡ out ++ (gone_text p p ++ flat_map (change_text p.document.nodes) (at_moment p.now (views_of p)))

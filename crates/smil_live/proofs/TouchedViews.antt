@@ -12,77 +12,77 @@ use Rattle.smil_model.specs.document.Closure.{has}
 use Rattle.smil_model.specs.document.Document.{Document, elements, node_at, serials}
 use Rattle.smil_model.specs.document.Valid.{IsDistinct}
 use Rattle.smil_model.specs.shown.Answers.{name_in}
-use Rattle.smil_model.specs.shown.Lines.{change_line}
 use Rattle.smil_model.specs.shown.Orders.{IsState, changed, view_eq}
-use Rattle.smil_model.specs.document.Words.{Begins}
+use Rattle.smil_report.specs.Tellings.{Begins, Telling}
+use Rattle.smil_report.proofs.Growing.{begins_by, begins_itself}
 use Rattle.smil_instances.proofs.Siblings.{distinct_elements}
-use Rattle.smil_model.proofs.Growing.{begins_by, begins_itself}
 use Rattle.smil_cells.specs.CellsState.{GoesOn, CellsState}
 use Rattle.smil_shown.specs.ShownViews.{views_at}
 use Rattle.smil_shown.specs.ViewTable.{ViewLists, differs, has_view, view_in, view_now, with_view}
-use Rattle.smil_shown.specs.Told.{lines_between, lines_of}
+use Rattle.smil_shown.specs.Told.{told_between, views_told}
 use Rattle.smil_shown.proofs.LinesTold.{difference_on, next_view}
 use Rattle.smil_live.proofs.PutViews.{AreLeft, IsTurn, OwnsIn, Stays, all_left, all_put, own_all, put_all, put_next, told_same, touched_of, touched_serials, turn_of}
 
 -- ---- the line of one view
 
-one_line : (nodes : List Node) (m : ℕ) (moment : ℤ) (before : List View) (v w : View) → moment ≡ pos m → v ≡ w → differs before v ≡ true
-    → change_line moment (name_in nodes v.serial) v ≡ lines_between nodes m before (w ∷ [])
-one_line nodes m moment before v w at is differ =
-    ap (λ z. change_line z (name_in nodes v.serial) v) at
-    ∙ (sym (append-nil (change_line (pos m) (name_in nodes v.serial) v))
-    ∙ (ap (λ (t : Bool). lines_of nodes m (cond t (v ∷ []) [])) (sym differ)
-    ∙ ap (λ x. lines_between nodes m before (x ∷ [])) is))
+module _ {I : Type 0} (tell : Telling I) where
+  one_line : (nodes : List Node) (m : ℕ) (moment : ℤ) (before : List View) (v w : View) → moment ≡ pos m → v ≡ w → differs before v ≡ true
+      → tell.change moment (name_in nodes v.serial) v ≡ told_between tell nodes m before (w ∷ [])
+  one_line nodes m moment before v w at is differ =
+      ap (λ z. tell.change z (name_in nodes v.serial) v) at
+      ∙ (sym (append-nil (tell.change (pos m) (name_in nodes v.serial) v))
+      ∙ (ap (λ (t : Bool). views_told tell nodes m (cond t (v ∷ []) [])) (sym differ)
+      ∙ ap (λ x. told_between tell nodes m before (x ∷ [])) is))
 
-pub no_line : (nodes : List Node) (m : ℕ) (before : List View) (v w : View) (out : List ℕ) → v ≡ w → differs before v ≡ false → out ≡ out ++ lines_between nodes m before (w ∷ [])
-no_line nodes m before v w out is differ =
-    sym (append-nil out)
-    ∙ ap (λ l. out ++ l) (ap (λ (t : Bool). lines_of nodes m (cond t (v ∷ []) [])) (sym differ) ∙ ap (λ x. lines_between nodes m before (x ∷ [])) is)
+  pub no_line : (nodes : List Node) (m : ℕ) (before : List View) (v w : View) (out : List I) → v ≡ w → differs before v ≡ false → out ≡ out ++ told_between tell nodes m before (w ∷ [])
+  no_line nodes m before v w out is differ =
+      sym (append-nil out)
+      ∙ ap (λ l. out ++ l) (ap (λ (t : Bool). views_told tell nodes m (cond t (v ∷ []) [])) (sym differ) ∙ ap (λ x. told_between tell nodes m before (x ∷ [])) is)
 
--- ---- turns
+  -- ---- turns
 
--- some of the views are put in place, and told
-pub record IsUnderWay (nodes : List Node) (m : ℕ) (first all : List View) (front : List ℕ) (before : List View) (shown : ViewLists) (i : ℕ) (out : List ℕ) : Type 0 where
-  pub left : AreLeft first all shown.views (drop i all)
-  pub told : out ++ lines_between nodes m first (drop i all) ≡ front ++ lines_between nodes m first all
-  pub before_is : shown.before ≡ before
-  pub begins : Begins front out
+  -- some of the views are put in place, and told
+  pub record IsUnderWay (nodes : List Node) (m : ℕ) (first all : List View) (front : List I) (before : List View) (shown : ViewLists) (i : ℕ) (out : List I) : Type 0 where
+    pub left : AreLeft first all shown.views (drop i all)
+    pub told : out ++ told_between tell nodes m first (drop i all) ≡ front ++ told_between tell nodes m first all
+    pub before_is : shown.before ≡ before
+    pub begins : Begins front out
 
-module _ (nodes : List Node) (m : ℕ) (first all : List View) (front : List ℕ) (before : List View) where
-  pub way_begins : (shown : ViewLists) → shown.views ≡ first → shown.before ≡ before → AreLeft first all first all → IsUnderWay nodes m first all front before shown 0 front
-  way_begins shown views is left = record {
-    left = subst (λ (vs : List View). AreLeft first all vs (drop 0 all)) (sym views) (subst (λ (vs : List View). AreLeft first all first vs) (sym (none_off all)) left);
-    told = ap (λ (vs : List View). front ++ lines_between nodes m first vs) (none_off all);
-    before_is = is;
-    begins = begins_itself front;
-  }
-    where
-      none_off : (vs : List View) → drop 0 vs ≡ vs
-      none_off [] = refl
-      none_off (v ∷ vs) = refl
+  module _ (nodes : List Node) (m : ℕ) (first all : List View) (front : List I) (before : List View) where
+    pub way_begins : (shown : ViewLists) → shown.views ≡ first → shown.before ≡ before → AreLeft first all first all → IsUnderWay nodes m first all front before shown 0 front
+    way_begins shown views is left = record {
+      left = subst (λ (vs : List View). AreLeft first all vs (drop 0 all)) (sym views) (subst (λ (vs : List View). AreLeft first all first vs) (sym (none_off all)) left);
+      told = ap (λ (vs : List View). front ++ told_between tell nodes m first vs) (none_off all);
+      before_is = is;
+      begins = begins_itself front;
+    }
+      where
+        none_off : (vs : List View) → drop 0 vs ≡ vs
+        none_off [] = refl
+        none_off (v ∷ vs) = refl
 
-  same_lines : (views : List View) (v : View) → view_in views v.serial ≡ view_in first v.serial → lines_between nodes m views (v ∷ []) ≡ lines_between nodes m first (v ∷ [])
-  same_lines views v same = ap (λ (w : View). lines_of nodes m (cond (not (view_eq v w)) (v ∷ []) [])) same
+    same_lines : (views : List View) (v : View) → view_in views v.serial ≡ view_in first v.serial → told_between tell nodes m views (v ∷ []) ≡ told_between tell nodes m first (v ∷ [])
+    same_lines views v same = ap (λ (w : View). views_told tell nodes m (cond (not (view_eq v w)) (v ∷ []) [])) same
 
-  -- the next view is put in place
-  pub way_on : (shown shown' : ViewLists) (i : ℕ) (d v : View) (out out' : List ℕ) → IsUnderWay nodes m first all front before shown i out → i < length all → get_or all i d ≡ v
-      → shown' ≡ with_view shown v → out' ≡ out ++ lines_between nodes m shown.views (v ∷ []) → Begins out out' → IsUnderWay nodes m first all front before shown' (i + 1) out'
-  way_on shown shown' i d v out out' way l is put told more = record {
-    left = subst (λ (vs : List View). AreLeft first all vs (drop (i + 1) all)) (sym (ap (λ (s : ViewLists). s.views) put)) (put_next first all shown.views (drop (i + 1) all) v left);
-    told = difference_on nodes m first all i d (front ++ lines_between nodes m first all) out out' l way.told
-        (told ∙ (ap (λ x. out ++ x) (same_lines shown.views v left.stand.0.0) ∙ ap (λ x. out ++ lines_between nodes m first (x ∷ [])) (sym is)));
-    before_is = ap (λ (s : ViewLists). s.before) put ∙ way.before_is;
-    begins = begins_by front out out' way.begins more;
-  }
-    where
-      left : AreLeft first all shown.views (v ∷ drop (i + 1) all)
-      left = subst (λ (vs : List View). AreLeft first all shown.views vs) (next_view all i d l ∙ ap (λ x. x ∷ drop (i + 1) all) is) way.left
+    -- the next view is put in place
+    pub way_on : (shown shown' : ViewLists) (i : ℕ) (d v : View) (out out' : List I) → IsUnderWay nodes m first all front before shown i out → i < length all → get_or all i d ≡ v
+        → shown' ≡ with_view shown v → out' ≡ out ++ told_between tell nodes m shown.views (v ∷ []) → Begins out out' → IsUnderWay nodes m first all front before shown' (i + 1) out'
+    way_on shown shown' i d v out out' way l is put told more = record {
+      left = subst (λ (vs : List View). AreLeft first all vs (drop (i + 1) all)) (sym (ap (λ (s : ViewLists). s.views) put)) (put_next first all shown.views (drop (i + 1) all) v left);
+      told = difference_on tell nodes m first all i d (front ++ told_between tell nodes m first all) out out' l way.told
+          (told ∙ (ap (λ x. out ++ x) (same_lines shown.views v left.stand.0.0) ∙ ap (λ x. out ++ told_between tell nodes m first (x ∷ [])) (sym is)));
+      before_is = ap (λ (s : ViewLists). s.before) put ∙ way.before_is;
+      begins = begins_by front out out' way.begins more;
+    }
+      where
+        left : AreLeft first all shown.views (v ∷ drop (i + 1) all)
+        left = subst (λ (vs : List View). AreLeft first all shown.views vs) (next_view all i d l ∙ ap (λ x. x ∷ drop (i + 1) all) is) way.left
 
-  pub views_end : (shown : ViewLists) (i : ℕ) (out : List ℕ) → IsUnderWay nodes m first all front before shown i out → length all ≤ i → shown.views ≡ put_all first all
-  views_end shown i out way l = ap (put_all shown.views) (sym (drop_of_length-le all l)) ∙ (way.left).put
+    pub views_end : (shown : ViewLists) (i : ℕ) (out : List I) → IsUnderWay nodes m first all front before shown i out → length all ≤ i → shown.views ≡ put_all first all
+    views_end shown i out way l = ap (put_all shown.views) (sym (drop_of_length-le all l)) ∙ (way.left).put
 
-  pub told_end : (shown : ViewLists) (i : ℕ) (out : List ℕ) → IsUnderWay nodes m first all front before shown i out → length all ≤ i → out ≡ front ++ lines_between nodes m first all
-  told_end shown i out way l = sym (append-nil out) ∙ (ap (λ (vs : List View). out ++ lines_between nodes m first vs) (sym (drop_of_length-le all l)) ∙ way.told)
+    pub told_end : (shown : ViewLists) (i : ℕ) (out : List I) → IsUnderWay nodes m first all front before shown i out → length all ≤ i → out ≡ front ++ told_between tell nodes m first all
+    told_end shown i out way l = sym (append-nil out) ∙ (ap (λ (vs : List View). out ++ told_between tell nodes m first vs) (sym (drop_of_length-le all l)) ∙ way.told)
 
 -- ---- from an earlier standing
 
@@ -136,9 +136,9 @@ module _ (new : CellsState) (first : List View) (from : IsFrom new first) where
       ap (λ (vs : List View). put_all vs (touched_views new)) from.first_is
       ∙ all_put (has new.touched) (view_now from.old) (view_now new) (λ e. refl) (λ e. refl) es from.distinct from.stay
 
-  pub told_last : lines_between new.presentation.document.nodes new.presentation.now first (touched_views new) ≡ lines_between new.presentation.document.nodes new.presentation.now first (views_at new)
-  told_last =
-      ap (lines_of new.presentation.document.nodes new.presentation.now)
+  pub told_last : {I : Type 0} (tell : Telling I) → told_between tell new.presentation.document.nodes new.presentation.now first (touched_views new) ≡ told_between tell new.presentation.document.nodes new.presentation.now first (views_at new)
+  told_last tell =
+      ap (views_told tell new.presentation.document.nodes new.presentation.now)
       (ap (λ (vs : List View). changed vs (touched_views new)) from.first_is
       ∙ (sym (told_same (has new.touched) (view_now from.old) (view_now new) (λ e. refl) (λ e. refl) es (elements new.presentation.document.nodes) (own_all es from.distinct) from.stay)
       ∙ ap (λ (vs : List View). changed vs (views_at new)) (sym from.first_is)))
@@ -150,20 +150,21 @@ module _ (new : CellsState) (first : List View) (from : IsFrom new first) where
 
 -- ---- by calls
 
--- the line that was put
-pub on_line : {A E : Type 0} (r : Result A E) (d e : Document) (m : ℕ) (moment : ℤ) (before : List View) (v w : View) (out out' : List ℕ) → d ≡ e → moment ≡ pos m → v ≡ w → differs before v ≡ true
-    → OnOk r (out' ≡ out ++ change_line moment (name_in d.nodes v.serial) v) → OnOk r (out' ≡ out ++ lines_between e.nodes m before (w ∷ []))
-on_line (Err x) d e m moment before v w out out' tree at is differ made = tt
-on_line (Ok x) d e m moment before v w out out' tree at is differ made =
-    made ∙ (ap (λ (k : Document). out ++ change_line moment (name_in k.nodes v.serial) v) tree ∙ ap (λ l. out ++ l) (one_line e.nodes m moment before v w at is differ))
+module _ {I : Type 0} (tell : Telling I) where
+  -- the line that was put
+  pub on_line : {A E : Type 0} (r : Result A E) (d e : Document) (m : ℕ) (moment : ℤ) (before : List View) (v w : View) (out out' : List I) → d ≡ e → moment ≡ pos m → v ≡ w → differs before v ≡ true
+      → OnOk r (out' ≡ out ++ tell.change moment (name_in d.nodes v.serial) v) → OnOk r (out' ≡ out ++ told_between tell e.nodes m before (w ∷ []))
+  on_line (Err x) d e m moment before v w out out' tree at is differ made = tt
+  on_line (Ok x) d e m moment before v w out out' tree at is differ made =
+      made ∙ (ap (λ (k : Document). out ++ tell.change moment (name_in k.nodes v.serial) v) tree ∙ ap (λ l. out ++ l) (one_line tell e.nodes m moment before v w at is differ))
 
 pub where_not_err : {A E : Type 0} (r : Result A E) (P : Type 0) → is_err r ≡ false → OnOk r P → P
 where_not_err (Ok x) P q p = p
 where_not_err (Err x) P q p = cc
 
-pub known_next : (nodes : List Node) (m : ℕ) (first all : List View) (front : List ℕ) (before : List View) (shown : ViewLists) (i : ℕ) (d : View) (out : List ℕ)
-    → IsUnderWay nodes m first all front before shown i out → i < length all → has_view shown.views (get_or all i d).serial ≡ true
-known_next nodes m first all front before shown i d out way l = (left.stand.0).1
+pub known_next : {I : Type 0} (tell : Telling I) (nodes : List Node) (m : ℕ) (first all : List View) (front : List I) (before : List View) (shown : ViewLists) (i : ℕ) (d : View) (out : List I)
+    → IsUnderWay tell nodes m first all front before shown i out → i < length all → has_view shown.views (get_or all i d).serial ≡ true
+known_next tell nodes m first all front before shown i d out way l = (left.stand.0).1
   where
     left : AreLeft first all shown.views (get_or all i d ∷ drop (i + 1) all)
     left = subst (λ (vs : List View). AreLeft first all shown.views vs) (next_view all i d l) way.left

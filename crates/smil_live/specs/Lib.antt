@@ -2,6 +2,7 @@ pub mod Counted
 pub mod Counts
 pub mod Editing
 pub mod Moves
+pub mod Recorded
 pub mod Sites
 pub mod Sought
 pub mod Telling

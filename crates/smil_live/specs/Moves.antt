@@ -1,5 +1,5 @@
 -- What orders make of a presentation.
-use Rattle.std.specs.Prelude.{◌≡◌, ◌⊎◌, ℕ, ℤ, pos, nat_abs, ◌-◌, ◌≤◌, ◌≤ℤ◌, List, [], ◌∷◌, ◌++◌, take, drop, length, filter, flat_map, int_le, None, Some, Ok, true}
+use Rattle.std.specs.Prelude.{◌≡◌, ◌⊎◌, ℕ, ℤ, pos, nat_abs, ◌-◌, ◌≤◌, ◌≤ℤ◌, List, [], ◌∷◌, ◌++◌, take, drop, length, filter, int_le, None, Some, Ok, true}
 use Rattle.smil_model.specs.declared.diary.Happening.{Happening}
 use Rattle.smil_model.specs.declared.diary.LogEntry.{LogEntry}
 use Rattle.smil_model.specs.declared.limits.TheConstants.{LOG_ENTRIES}
@@ -12,8 +12,9 @@ use Rattle.smil_model.specs.document.Limits.{limits}
 use Rattle.smil_model.specs.diary.Logs.{may_happen, moments_rise}
 use Rattle.smil_model.specs.happening.Keys.{DueChange}
 use Rattle.smil_model.specs.happening.Resolution.{diary_of}
-use Rattle.smil_model.specs.shown.Answers.{IsRefusedBy, change_text}
+use Rattle.smil_model.specs.shown.Answers.{IsRefusedBy}
 use Rattle.smil_model.specs.shown.Orders.{Presentation, course_of, changes_between, changes_through, with_logged as logged_within, as_of}
+use Rattle.smil_report.specs.Tellings.{Telling, changes_told}
 use Rattle.smil_cells.specs.CellsState.{CellsState, IsSettled, first_at, with_logged}
 use Rattle.smil_shown.specs.ShownViews.{IsShown}
 use Rattle.smil_shown.specs.ViewTable.{ViewLists}
@@ -41,9 +42,9 @@ changes_by p (move.Pass to) = changes_through p (nat_abs to - p.now)
 changes_by p (move.Settle to) = changes_between p (made p (move.Settle to))
 changes_by p (move.Hear entry) = changes_between p (made p (move.Hear entry))
 
--- the lines of changes
-abbrev pub text_of : Presentation → List (ℕ × View) → List ℕ
-text_of p changes = flat_map (change_text p.document.nodes) changes
+-- what is told of changes
+abbrev pub told_of : {Item : Type 0} → Telling Item → Presentation → List (ℕ × View) → List Item
+told_of telling p changes = changes_told telling p.document.nodes changes
 
 -- a state is refused since its diary has too many entries, or since memory ran out
 abbrev pub IsTooFull : Presentation → Refusal → Type 0
@@ -107,10 +108,11 @@ abbrev pub entry_of : Presentation → Happening → LogEntry
 entry_of p what = record { moment = pos p.now; what = what }
 
 -- what came from outside was heard, and this was told
-pub record IsHeardBy
-    (before : Presentation) (what : Happening) (after : Presentation) (text : List ℕ) : Type 0 where
+pub record IsHeardBy {Item : Type 0} (telling : Telling Item)
+    (before : Presentation) (what : Happening) (after : Presentation) (told : List Item)
+    : Type 0 where
   pub state : logged_within limits before what ≡ Ok after
-  pub told : text ≡ text_of before (changes_between before after)
+  pub told_is : told ≡ told_of telling before (changes_between before after)
 
 -- why it was not
 abbrev pub IsNotHeard : Presentation → Happening → Refusal → Type 0

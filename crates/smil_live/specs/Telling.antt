@@ -24,18 +24,7 @@ is_edit (order.Insert who place line column) = true
 is_edit (order.Remove who) = true
 is_edit _ = false
 
--- an order that changes nothing
-abbrev pub is_telling : Order → Bool
-is_telling order.Show = true
-is_telling (order.History who) = true
-is_telling order.Text = true
-is_telling order.Save = true
-is_telling order.Diary = true
-is_telling order.Values = true
-is_telling (order.Stack who name) = true
-is_telling _ = false
-
--- one that names no node
+-- an order that changes nothing, and names no node
 abbrev pub is_plain_telling : Order → Bool
 is_plain_telling order.Show = true
 is_plain_telling order.Text = true

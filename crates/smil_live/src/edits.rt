@@ -4,16 +4,16 @@ ghost use Rattle.std.specs.Prelude.{◌≡◌, ◌≤◌, ◌-◌, ◌++◌, dro
 ghost use Rattle.smil_model.specs.declared.document.Node.{Node as AnyNode};
 ghost use Rattle.smil_model.specs.declared.order.Order.TheVariants as order;
 ghost use Rattle.smil_model.specs.document.Document.{serial_of, time_parent};
-ghost use Rattle.smil_model.specs.shown.Answers.{Accepts, IsGiven, IsRefusedBy, Refuses, gone_text};
+ghost use Rattle.smil_model.specs.shown.Answers.{IsGiven, IsRefusedBy, Refuses};
 ghost use Rattle.smil_model.specs.shown.Orders.{IsState, changes_between, node_of};
 ghost use Rattle.smil_grammar.specs.Formats.{formats};
-ghost use Rattle.smil_model.specs.document.Words.{Begins};
+ghost use Rattle.smil_report.specs.Tellings.{Begins, Tells, gone_told};
 ghost use Rattle.smil_cells.specs.CellsState.{WhereTold};
 ghost use Rattle.smil_live.specs.Counted.{KeepsToCounts};
 ghost use Rattle.smil_live.specs.Counts.{agreed_under, least_loading, serial_or_0};
 ghost use Rattle.smil_live.specs.Editing.{IsEdited, edit_of};
 ghost use Rattle.smil_shown.specs.ShownViews.{IsPlaying};
-ghost use Rattle.smil_live.specs.Moves.{IsReplayed, IsTooFull, edited_to, text_of};
+ghost use Rattle.smil_live.specs.Moves.{IsReplayed, IsTooFull, edited_to, told_of};
 ghost use Rattle.smil_revision.specs.References.{keeps_references};
 ghost use Rattle.smil_live.specs.Sites.{IsMade, most_resolving, site_nodes, site_serial, staying};
 
@@ -23,8 +23,9 @@ use smil_cells::{Cells, Table};
 use smil_diary::Book;
 use smil_instances::parent_of;
 use smil_interval::Steps;
-use smil_model::{Bytes, Refusal, Who};
+use smil_model::{GrowingList, Refusal, Who};
 use smil_past::GraphedTree;
+use smil_report::ChangeItem;
 use smil_revision::{
     Child, GraphedDocument, LineText, Revision, Setting, keeps_references, with_child, with_value,
     without_name, without_node,
@@ -45,16 +46,16 @@ pub(crate) enum Site {
 impl<T: Table> PresentationOver<T> {
     /// Gives an attribute of a node a value. The refusals are those of the node, of name and value,
     /// of the edit, and that of a diary without room.
-    pub fn set<L: Ledger>(
+    pub fn set<I: ChangeItem, L: Ledger>(
         &mut self,
         who: &Who,
         setting: Setting<'_>,
-        out: &mut Bytes,
+        out: &mut GrowingList<I>,
         steps: &mut Steps<L>,
     ) -> Result<(), Refusal>
         requires { IsGiven (order.Set who.now setting.attr.text.now setting.value.text.now
             setting.attr.column setting.value.column) }
-        ensures ok { OnOk result (Accepts formats self.old self.new
+        ensures ok { OnOk result (Tells I.telling formats self.old self.new
             (order.Set who.now setting.entry.attr.text.now setting.entry.value.text.now
             setting.entry.attr.column setting.entry.value.column) (drop (length out.old) out.new)) }
         ensures appended { OnOk result (out.new ≡ out.old ++ drop (length out.old) out.new) }
@@ -75,15 +76,15 @@ impl<T: Table> PresentationOver<T> {
 
     /// Takes an attribute of a node away. The refusals are those of the node, of the name, and that
     /// of a diary without room.
-    pub fn unset<L: Ledger>(
+    pub fn unset<I: ChangeItem, L: Ledger>(
         &mut self,
         who: &Who,
         attr: LineText<'_>,
-        out: &mut Bytes,
+        out: &mut GrowingList<I>,
         steps: &mut Steps<L>,
     ) -> Result<(), Refusal>
         requires { IsGiven (order.Unset who.now attr.text.now attr.column) }
-        ensures ok { OnOk result (Accepts formats self.old self.new
+        ensures ok { OnOk result (Tells I.telling formats self.old self.new
             (order.Unset who.now attr.entry.text.now attr.entry.column)
             (drop (length out.old) out.new)) }
         ensures appended { OnOk result (out.new ≡ out.old ++ drop (length out.old) out.new) }
@@ -103,16 +104,16 @@ impl<T: Table> PresentationOver<T> {
 
     /// Inserts a node into another at a place. The refusals are those of the parent, of the line's
     /// kind, of the place, of the line's attributes, of the edit, and that of a diary without room.
-    pub fn insert<L: Ledger>(
+    pub fn insert<I: ChangeItem, L: Ledger>(
         &mut self,
         who: &Who,
         child: Child<'_>,
-        out: &mut Bytes,
+        out: &mut GrowingList<I>,
         steps: &mut Steps<L>,
     ) -> Result<(), Refusal>
         requires { IsGiven
             (order.Insert who.now child.place child.line.text.now child.line.column) }
-        ensures ok { OnOk result (Accepts formats self.old self.new
+        ensures ok { OnOk result (Tells I.telling formats self.old self.new
             (order.Insert who.now child.entry.place child.entry.line.text.now
             child.entry.line.column) (drop (length out.old) out.new)) }
         ensures appended { OnOk result (out.new ≡ out.old ++ drop (length out.old) out.new) }
@@ -131,14 +132,14 @@ impl<T: Table> PresentationOver<T> {
 
     /// Removes a node with all below it. The refusals are those of the node, `Root`, and that of a
     /// diary without room.
-    pub fn remove<L: Ledger>(
+    pub fn remove<I: ChangeItem, L: Ledger>(
         &mut self,
         who: &Who,
-        out: &mut Bytes,
+        out: &mut GrowingList<I>,
         steps: &mut Steps<L>,
     ) -> Result<(), Refusal>
         requires { IsGiven (order.Remove who.now) }
-        ensures ok { OnOk result (Accepts formats self.old self.new (order.Remove who.now)
+        ensures ok { OnOk result (Tells I.telling formats self.old self.new (order.Remove who.now)
             (drop (length out.old) out.new)) }
         ensures appended { OnOk result (out.new ≡ out.old ++ drop (length out.old) out.new) }
         ensures refused { IfErr result (Refuses formats self.old (order.Remove who.now)) }
@@ -225,15 +226,15 @@ impl<T: Table> PresentationOver<T> {
 
     // Resolves an edited document with the same log from the part of the diary that stays, tells
     // what is gone and what has changed, and goes on with it.
-    fn take_edited<L: Ledger>(
+    fn take_edited<I: ChangeItem, L: Ledger>(
         &mut self,
         edited: Tree,
         site: Site,
-        out: &mut Bytes,
+        out: &mut GrowingList<I>,
         steps: &mut Steps<L>,
     ) -> Result<(), Refusal>
         requires { IsMade self.old.document site edited }
-        ensures ok { OnOk result (IsEdited self.old edited self.new out.old out.new) }
+        ensures ok { OnOk result (IsEdited I.telling self.old edited self.new out.old out.new) }
         ensures refused { IfErr result (IsTooFull (edited_to self.old edited)) }
         ensures kept { OnErr result (self.new ≡ self.old) }
         ensures text { OnErr result (out.new ≡ out.old) }
@@ -249,12 +250,16 @@ impl<T: Table> PresentationOver<T> {
 
     // Tells which elements other cells have no longer and which views differ by them, and puts them
     // in the place of its own, which `cells` holds then. Where memory runs out all is as before.
-    pub(crate) fn take_over(&mut self, cells: &mut Cells<T>, out: &mut Bytes) -> Result<(), Refusal>
+    pub(crate) fn take_over<I: ChangeItem>(
+        &mut self,
+        cells: &mut Cells<T>,
+        out: &mut GrowingList<I>,
+    ) -> Result<(), Refusal>
         requires state { IsState cells.old.presentation }
         requires replayed { IsReplayed cells.old.presentation cells.old }
         ensures state { OnOk result (self.new ≡ cells.old.presentation) }
-        ensures told { OnOk result (out.new ≡ out.old ++ gone_text self.old cells.old.presentation
-            ++ text_of cells.old.presentation (changes_between self.old cells.old.presentation)) }
+        ensures told { OnOk result (out.new ≡ out.old ++ gone_told I.telling self.old cells.old.presentation
+            ++ told_of I.telling cells.old.presentation (changes_between self.old cells.old.presentation)) }
         ensures refused { IfErr result (λ refusal. refusal ≡ Refusal.Memory) }
         ensures kept { OnErr result (self.new ≡ self.old) }
         ensures text { OnErr result (out.new ≡ out.old) }
@@ -329,16 +334,16 @@ impl<T: Table> PresentationOver<T> {
         keeps_references(self.alloc, revision)
     }
 
-    // Appends the lines of the elements that are gone, and those of the views that differ.
-    fn put_edited(
+    // Tells the elements that are gone, and the views that differ.
+    fn put_edited<I: ChangeItem>(
         &self,
         cells: &Cells<T>,
         seen: &ViewTable,
-        out: &mut Bytes,
+        out: &mut GrowingList<I>,
     ) -> Result<(), AllocError>
         requires playing { IsPlaying cells.now seen.now }
-        ensures ok { OnOk result (out.new ≡ out.old ++ gone_text self.now cells.now.presentation
-            ++ text_of cells.now.presentation (changes_between self.now cells.now.presentation)) }
+        ensures ok { OnOk result (out.new ≡ out.old ++ gone_told I.telling self.now cells.now.presentation
+            ++ told_of I.telling cells.now.presentation (changes_between self.now cells.now.presentation)) }
         ensures err { OnErr result (Begins out.old out.new) }
     {
         let now = cells.moment();

@@ -7,10 +7,11 @@ mod moves;
 mod outlines;
 mod presentation;
 mod replay;
+mod screen;
 mod tells;
 mod viewer;
 mod worked;
 
-pub use laws::seek_back_keeps_diary;
+pub use laws::{records_are_lines, seek_back_keeps_diary};
 pub use presentation::{Presentation, PresentationOver};
 pub use worked::worked_counts;

@@ -5,19 +5,23 @@ ghost use Rattle.smil_model.specs.declared.order.Order.TheVariants as order;
 ghost use Rattle.smil_model.specs.document.Document.{is_continuous, elements};
 ghost use Rattle.smil_model.specs.document.Values.{is_clock};
 ghost use Rattle.smil_model.specs.diary.Logs.{may_happen};
-ghost use Rattle.smil_model.specs.shown.Answers.{Accepts, IsGiven, MayEvaluate, Refuses};
+ghost use Rattle.smil_model.specs.shown.Answers.{IsGiven, MayEvaluate, Refuses};
 ghost use Rattle.smil_model.specs.shown.Orders.{IsState};
 ghost use Rattle.smil_grammar.specs.Formats.{formats};
+ghost use Rattle.smil_report.specs.Tellings.{Tells};
 ghost use Rattle.smil_cells.specs.CellsState.{WhereTold};
 ghost use Rattle.smil_live.specs.Counted.{KeepsToCounts};
 ghost use Rattle.smil_live.specs.Counts.{least_loading, least_onward, most_onward};
-ghost use Rattle.smil_live.specs.Moves.{IsHeardBy, IsNotHeard, IsReplayed, IsTooFull, MayMove, changes_by, made, sought_of, text_of};
+ghost use Rattle.smil_live.specs.Moves.{IsHeardBy, IsNotHeard, IsReplayed, IsTooFull, MayMove, changes_by, made, sought_of, told_of};
 
 use super::presentation::PresentationOver;
 use super::replay::cells_at;
 use smil_cells::{Cells, Table};
 use smil_interval::Steps;
-use smil_model::{Bytes, HORIZON, Happening, Kind, LOG_ENTRIES, LogEntry, Refusal, Who};
+use smil_model::{
+    Bytes, GrowingList, HORIZON, Happening, Kind, LOG_ENTRIES, LogEntry, Refusal, Who,
+};
+use smil_report::ChangeItem;
 use std::sync::ledger::Ledger;
 
 /// How a presentation goes on from its present state. Moments are in milliseconds of document time.
@@ -35,14 +39,14 @@ impl<T: Table> PresentationOver<T> {
     /// Moves on by so many milliseconds of document time, and tells the changes of each moment on
     /// the way. `BeyondHorizon` where the new moment would be above 10^12, then `DiaryFull` where
     /// the diary would have too many entries, or `Memory`.
-    pub fn advance<L: Ledger>(
+    pub fn advance<I: ChangeItem, L: Ledger>(
         &mut self,
         by: i64,
-        out: &mut Bytes,
+        out: &mut GrowingList<I>,
         steps: &mut Steps<L>,
     ) -> Result<(), Refusal>
         requires { is_clock by ≡ true }
-        ensures ok { OnOk result (Accepts formats self.old self.new (order.Advance by)
+        ensures ok { OnOk result (Tells I.telling formats self.old self.new (order.Advance by)
             (drop (length_of out.old) out.new)) }
         ensures appended { OnOk result (out.new ≡ out.old ++ drop (length_of out.old) out.new) }
         ensures refused { IfErr result (Refuses formats self.old (order.Advance by)) }
@@ -64,14 +68,14 @@ impl<T: Table> PresentationOver<T> {
     /// Moves to a moment, in milliseconds of document time, and tells what is different there.
     /// Backward, the log entries that are later are removed. `DiaryFull` where the diary would have
     /// too many entries, or `Memory`.
-    pub fn seek<L: Ledger>(
+    pub fn seek<I: ChangeItem, L: Ledger>(
         &mut self,
         to: i64,
-        out: &mut Bytes,
+        out: &mut GrowingList<I>,
         steps: &mut Steps<L>,
     ) -> Result<(), Refusal>
         requires { is_clock to ≡ true }
-        ensures ok { OnOk result (Accepts formats self.old self.new (order.Seek to)
+        ensures ok { OnOk result (Tells I.telling formats self.old self.new (order.Seek to)
             (drop (length_of out.old) out.new)) }
         ensures appended { OnOk result (out.new ≡ out.old ++ drop (length_of out.old) out.new) }
         ensures refused { IfErr result (Refuses formats self.old (order.Seek to)) }
@@ -90,15 +94,15 @@ impl<T: Table> PresentationOver<T> {
     }
 
     // Moves to an earlier moment, over cells with the entries of the diary and the log up to it.
-    fn seek_back<L: Ledger>(
+    fn seek_back<I: ChangeItem, L: Ledger>(
         &mut self,
         to: i64,
-        out: &mut Bytes,
+        out: &mut GrowingList<I>,
         steps: &mut Steps<L>,
     ) -> Result<(), Refusal>
         requires clock { is_clock to ≡ true }
         requires back { to <ℤ pos self.old.now }
-        ensures ok { OnOk result (Accepts formats self.old self.new (order.Seek to)
+        ensures ok { OnOk result (Tells I.telling formats self.old self.new (order.Seek to)
             (drop (length_of out.old) out.new)) }
         ensures appended { OnOk result (out.new ≡ out.old ++ drop (length_of out.old) out.new) }
         ensures refused { IfErr result (Refuses formats self.old (order.Seek to)) }
@@ -132,15 +136,15 @@ impl<T: Table> PresentationOver<T> {
 
     /// An event happens on an element at the present moment. `NoElement` where there is no such
     /// node, `BadPlace` where it is a priorityClass, then `LogFull` and `DiaryFull`, or `Memory`.
-    pub fn event<L: Ledger>(
+    pub fn event<I: ChangeItem, L: Ledger>(
         &mut self,
         who: &Who,
         name: &Bytes,
-        out: &mut Bytes,
+        out: &mut GrowingList<I>,
         steps: &mut Steps<L>,
     ) -> Result<(), Refusal>
         requires { IsGiven (order.Event who.now name.now) }
-        ensures ok { OnOk result (Accepts formats self.old self.new (order.Event who.now name.now)
+        ensures ok { OnOk result (Tells I.telling formats self.old self.new (order.Event who.now name.now)
             (drop (length_of out.old) out.new)) }
         ensures appended { OnOk result (out.new ≡ out.old ++ drop (length_of out.old) out.new) }
         ensures refused { IfErr result (Refuses formats self.old (order.Event who.now name.now)) }
@@ -159,15 +163,15 @@ impl<T: Table> PresentationOver<T> {
     /// The length of a node's media, in milliseconds, becomes known at the present moment.
     /// `NoElement` where there is no such node, `NotContinuous` where its media have no length,
     /// then `LogFull` and `DiaryFull`, or `Memory`.
-    pub fn media<L: Ledger>(
+    pub fn media<I: ChangeItem, L: Ledger>(
         &mut self,
         who: &Who,
         length: i64,
-        out: &mut Bytes,
+        out: &mut GrowingList<I>,
         steps: &mut Steps<L>,
     ) -> Result<(), Refusal>
         requires { IsGiven (order.Media who.now length) }
-        ensures ok { OnOk result (Accepts formats self.old self.new (order.Media who.now length)
+        ensures ok { OnOk result (Tells I.telling formats self.old self.new (order.Media who.now length)
             (drop (length_of out.old) out.new)) }
         ensures appended { OnOk result (out.new ≡ out.old ++ drop (length_of out.old) out.new) }
         ensures refused { IfErr result (Refuses formats self.old (order.Media who.now length)) }
@@ -190,14 +194,14 @@ impl<T: Table> PresentationOver<T> {
 
     /// Appends what came from outside to the log, at the present moment, and tells what differs
     /// behind it. `LogFull` where the log is full, then `DiaryFull`, or `Memory`.
-    pub fn hear<L: Ledger>(
+    pub fn hear<I: ChangeItem, L: Ledger>(
         &mut self,
         what: Happening,
-        out: &mut Bytes,
+        out: &mut GrowingList<I>,
         steps: &mut Steps<L>,
     ) -> Result<(), Refusal>
         requires { may_happen what ≡ true }
-        ensures ok { OnOk result (IsHeardBy self.old what self.new
+        ensures ok { OnOk result (IsHeardBy I.telling self.old what self.new
             (drop (length_of out.old) out.new)) }
         ensures appended { OnOk result (out.new ≡ out.old ++ drop (length_of out.old) out.new) }
         ensures refused { IfErr result (IsNotHeard self.old what) }
@@ -222,16 +226,16 @@ impl<T: Table> PresentationOver<T> {
     }
 
     // Goes on by a move under a mark; after a refusal all is as before.
-    fn go<L: Ledger>(
+    fn go<I: ChangeItem, L: Ledger>(
         &mut self,
         step: Move,
-        out: &mut Bytes,
+        out: &mut GrowingList<I>,
         steps: &mut Steps<L>,
     ) -> Result<(), Refusal>
         requires { MayMove self.old step }
         ensures state { OnOk result (self.new ≡ made self.old step) }
         ensures told { OnOk result (out.new ≡ out.old
-            ++ text_of self.old (changes_by self.old step)) }
+            ++ told_of I.telling self.old (changes_by self.old step)) }
         ensures refused { IfErr result (IsTooFull (made self.old step)) }
         ensures kept { OnErr result (self.new ≡ self.old) }
         ensures text { OnErr result (out.new ≡ out.old) }

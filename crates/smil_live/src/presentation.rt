@@ -1,6 +1,6 @@
 //! A presentation that answers orders.
 
-ghost use Rattle.std.specs.Prelude.{◌≡◌, ◌≤◌, ◌-◌, ◌++◌, drop, length, true, Some, IsSome, Ok, Err, OnOk, OnErr, IfOk, IfErr};
+ghost use Rattle.std.specs.Prelude.{◌≡◌, ◌≤◌, ◌-◌, ◌++◌, drop, length, true, false, Some, IsSome, Ok, Err, OnOk, OnErr, IfOk, IfErr};
 ghost use Rattle.smil_model.specs.declared.document.Node.{Node as AnyNode};
 ghost use Rattle.smil_model.specs.declared.order.Order.TheVariants as order;
 ghost use Rattle.smil_model.specs.diary.Logs.{is_serial};
@@ -8,8 +8,9 @@ ghost use Rattle.smil_model.specs.document.Document.{node_at};
 ghost use Rattle.smil_model.specs.document.Valid.{IsValid};
 ghost use Rattle.smil_model.specs.happening.Resolution.{diary_of};
 ghost use Rattle.smil_model.specs.shown.Orders.{IsState, course_of, found, node_of, opened};
-ghost use Rattle.smil_model.specs.shown.Answers.{Accepts, IsGiven, IsRefusedBy, Refuses, load_text};
+ghost use Rattle.smil_model.specs.shown.Answers.{IsGiven, IsRefusedBy, Refuses};
 ghost use Rattle.smil_grammar.specs.Formats.{formats};
+ghost use Rattle.smil_report.specs.Tellings.{Tells, is_telling, load_told};
 ghost use Rattle.smil_cells.specs.CellsState.{WhereTold};
 ghost use Rattle.smil_live.specs.Counted.{KeepsToCounts};
 ghost use Rattle.smil_live.specs.Counts.{least_loading, most_loading};
@@ -18,12 +19,14 @@ ghost use Rattle.smil_live.specs.Moves.{IsReplayed};
 ghost use Rattle.smil_live.specs.Telling.{element_named, is_edit};
 
 use super::replay::{Replay, replayed};
+use super::screen::on_screen;
 use super::viewer::Viewer;
 use smil_cells::{Cells, Table};
-use smil_house::Player;
+use smil_house::{OnScreen, Player};
 use smil_interval::Steps;
-use smil_model::{Bytes, Doc, Happening, Order, Refusal, Who};
+use smil_model::{Bytes, Doc, GrowingList, Happening, Order, Refusal, Who};
 use smil_nodes::LiveTable;
+use smil_report::{ChangeItem, Changes};
 use smil_revision::{Child, LineText, Setting};
 use smil_shown::{Scene, ViewTable, put_differences};
 use std::alloc::Global;
@@ -64,18 +67,17 @@ impl<T: Table> Model for PresentationOver<T> {
 }
 
 impl<T: Table> PresentationOver<T> {
-    /// Opens a valid document at moment 0 with an empty log, and appends the lines of what is shown
-    /// of it. `DiaryFull` where its diary has too many entries, `Memory` where memory runs out;
+    /// Opens a valid document at moment 0 with an empty log, and tells what is shown of it. `DiaryFull` where its diary has too many entries, `Memory` where memory runs out;
     /// after a refusal `out` is as before.
-    pub fn new<L: Ledger>(
+    pub fn new<I: ChangeItem, L: Ledger>(
         alloc: Global,
         doc: Doc,
-        out: &mut Bytes,
+        out: &mut GrowingList<I>,
         steps: &mut Steps<L>,
     ) -> Result<Self, Refusal>
         requires { IsValid doc }
         ensures state { IfOk result (λ playing. opened doc ≡ Ok playing) }
-        ensures answer { IfOk result (λ playing. out.new ≡ out.old ++ load_text playing) }
+        ensures answer { IfOk result (λ playing. out.new ≡ out.old ++ load_told I.telling playing) }
         ensures refused { IfErr result (IsRefusedBy (opened doc)) }
         ensures text { OnErr result (out.new ≡ out.old) }
         ensures counted { steps.old ≤ steps.new }
@@ -89,14 +91,17 @@ impl<T: Table> PresentationOver<T> {
         PresentationOver::over(alloc, cells, out)
     }
 
-    // A presentation over cells that are settled at moment 0, with the lines of what is shown of
-    // it.
-    fn over(alloc: Global, cells: Cells<T>, out: &mut Bytes) -> Result<Self, Refusal>
+    // A presentation over cells that are settled at moment 0, with what is shown of it told.
+    fn over<I: ChangeItem>(
+        alloc: Global,
+        cells: Cells<T>,
+        out: &mut GrowingList<I>,
+    ) -> Result<Self, Refusal>
         requires state { IsState cells.presentation }
         requires replayed { IsReplayed cells.presentation cells }
         requires moment { cells.presentation.now ≡ 0 }
         ensures state { IfOk result (λ playing. playing ≡ cells.presentation) }
-        ensures answer { IfOk result (λ playing. out.new ≡ out.old ++ load_text playing) }
+        ensures answer { IfOk result (λ playing. out.new ≡ out.old ++ load_told I.telling playing) }
         ensures refused { IfErr result (λ refusal. refusal ≡ Refusal.Memory) }
         ensures text { OnErr result (out.new ≡ out.old) }
     {
@@ -147,14 +152,14 @@ impl<T: Table> PresentationOver<T> {
     }
 
     // Hears a key, and tells what changes.
-    fn press<L: Ledger>(
+    fn press<I: ChangeItem, L: Ledger>(
         &mut self,
         key: u8,
-        out: &mut Bytes,
+        out: &mut GrowingList<I>,
         steps: &mut Steps<L>,
     ) -> Result<(), Refusal>
         requires { IsGiven (order.Key key) }
-        ensures ok { OnOk result (Accepts formats self.old self.new (order.Key key)
+        ensures ok { OnOk result (Tells I.telling formats self.old self.new (order.Key key)
             (drop (length out.old) out.new)) }
         ensures appended { OnOk result (out.new ≡ out.old ++ drop (length out.old) out.new) }
         ensures refused { IfErr result (Refuses formats self.old (order.Key key)) }
@@ -169,15 +174,15 @@ impl<T: Table> PresentationOver<T> {
     }
 
     // Answers an order that edits the document.
-    fn edit<L: Ledger>(
+    fn edit<I: ChangeItem, L: Ledger>(
         &mut self,
         order: &Order,
-        out: &mut Bytes,
+        out: &mut GrowingList<I>,
         steps: &mut Steps<L>,
     ) -> Result<(), Refusal>
         requires given { IsGiven order.now }
         requires edits { is_edit order.now ≡ true }
-        ensures ok { OnOk result (Accepts formats self.old self.new order.now
+        ensures ok { OnOk result (Tells I.telling formats self.old self.new order.now
             (drop (length out.old) out.new)) }
         ensures appended { OnOk result (out.new ≡ out.old ++ drop (length out.old) out.new) }
         ensures refused { IfErr result (Refuses formats self.old order.now) }
@@ -221,6 +226,36 @@ impl<T: Table> PresentationOver<T> {
             _ => unreachable!(),
         }
     }
+
+    // Answers an order that may change something: tells what it changes.
+    fn change<I: ChangeItem, L: Ledger>(
+        &mut self,
+        order: &Order,
+        out: &mut GrowingList<I>,
+        steps: &mut Steps<L>,
+    ) -> Result<(), Refusal>
+        requires given { IsGiven order.now }
+        requires changes { is_telling order.now ≡ false }
+        ensures ok { OnOk result (Tells I.telling formats self.old self.new order.now
+            (drop (length out.old) out.new)) }
+        ensures appended { OnOk result (out.new ≡ out.old ++ drop (length out.old) out.new) }
+        ensures refused { IfErr result (Refuses formats self.old order.now) }
+        ensures kept { OnErr result (self.new ≡ self.old) }
+        ensures text { OnErr result (out.new ≡ out.old) }
+        ensures counted { steps.old ≤ steps.new }
+        ensures bounded { KeepsToCounts T.counts self.old order.now result (steps.new - steps.old) }
+    {
+        match order {
+            Order::Advance { by } => self.advance(*by, out, steps),
+            Order::Seek { to } => self.seek(*to, out, steps),
+            Order::Event { who, name } => self.event(who, name, out, steps),
+            Order::Media { who, length } => self.media(who, *length, out, steps),
+            Order::Key { key } => self.press(*key, out, steps),
+            Order::Set { .. } | Order::Unset { .. } | Order::Insert { .. } | Order::Remove { .. } =>
+                self.edit(order, out, steps),
+            _ => unreachable!(),
+        }
+    }
 }
 
 impl<T: Table> Player for PresentationOver<T> {
@@ -246,29 +281,53 @@ impl<T: Table> Player for PresentationOver<T> {
         self.viewer.cells.next_due()
     }
 
+    fn find(&self, who: &Who) -> Option<u32> {
+        self.viewer.cells.tree().find(who)
+    }
+
+    fn on_screen(&self, index: usize) -> Option<OnScreen> {
+        let view = self.viewer.seen.views().get(index)?;
+        let cells = &self.viewer.cells;
+        Some(on_screen(cells.past(), cells.moment(), view))
+    }
+
     fn answer<L: Ledger>(
         &mut self,
         order: &Order,
         out: &mut Bytes,
         steps: &mut Steps<L>,
     ) -> Result<(), Refusal> {
-        match order {
-            Order::Advance { by } => self.advance(*by, out, steps),
-            Order::Seek { to } => self.seek(*to, out, steps),
-            Order::Event { who, name } => self.event(who, name, out, steps),
-            Order::Media { who, length } => self.media(who, *length, out, steps),
-            Order::Key { key } => self.press(*key, out, steps),
-            Order::Set { .. } | Order::Unset { .. } | Order::Insert { .. } | Order::Remove { .. } =>
-                self.edit(order, out, steps),
-            Order::Show
+        if is_telling(order) {
+            self.tell(order, out)
+        } else {
+            self.change(order, out, steps)
+        }
+    }
+
+    fn record<L: Ledger>(
+        &mut self,
+        order: &Order,
+        out: &mut Changes,
+        steps: &mut Steps<L>,
+    ) -> Result<(), Refusal> {
+        self.change(order, out, steps)
+    }
+}
+
+// Whether an order only tells something.
+fn is_telling(order: &Order) -> bool
+    ensures { result ≡ is_telling order.now }
+{
+    matches!(
+        order,
+        Order::Show
             | Order::History { .. }
             | Order::Text
             | Order::Save
             | Order::Values
             | Order::Stack { .. }
-            | Order::Diary => self.tell(order, out),
-        }
-    }
+            | Order::Diary
+    )
 }
 
 // A text in an order's line, with its column.
@@ -282,17 +341,17 @@ fn placed(text: &Bytes, column: u32) -> LineText<'_>
     }
 }
 
-// The views of cells that are settled at moment 0, with their lines appended.
-fn put_first<T: Table>(
+// The views of cells that are settled at moment 0, which are told.
+fn put_first<T: Table, I: ChangeItem>(
     alloc: Global,
     cells: &Cells<T>,
-    out: &mut Bytes,
+    out: &mut GrowingList<I>,
 ) -> Result<ViewTable, Refusal>
     requires state { IsState cells.now.presentation }
     requires replayed { IsReplayed cells.now.presentation cells.now }
     requires moment { cells.now.presentation.now ≡ 0 }
     ensures seen { IfOk result (IsPlaying cells.now) }
-    ensures answer { OnOk result (out.new ≡ out.old ++ load_text cells.now.presentation) }
+    ensures answer { OnOk result (out.new ≡ out.old ++ load_told I.telling cells.now.presentation) }
     ensures refused { IfErr result (λ refusal. refusal ≡ Refusal.Memory) }
     ensures text { OnErr result (out.new ≡ out.old) }
 {

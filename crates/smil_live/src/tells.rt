@@ -13,7 +13,8 @@ ghost use Rattle.smil_model.specs.shown.Sandwich.{stack_of};
 ghost use Rattle.smil_grammar.specs.Formats.{formats};
 ghost use Rattle.smil_model.specs.document.Words.{Begins};
 ghost use Rattle.smil_shown.specs.Sets.{AreSetsAmong, AreSetsOf};
-ghost use Rattle.smil_live.specs.Telling.{element_named, is_plain_telling, is_telling, layers_text, setter_text};
+ghost use Rattle.smil_report.specs.Tellings.{is_telling};
+ghost use Rattle.smil_live.specs.Telling.{element_named, is_plain_telling, layers_text, setter_text};
 
 use super::outlines::{put_outline, put_saved_outline};
 use super::presentation::PresentationOver;

@@ -4,17 +4,18 @@ ghost use Rattle.std.specs.Prelude.{◌≡◌, ◌≤◌, ◌-◌, ◌++◌, [],
 ghost use Rattle.smil_model.specs.declared.document.Node.{Node as AnyNode};
 ghost use Rattle.smil_model.specs.document.Document.{elements, node_at};
 ghost use Rattle.smil_model.specs.shown.Orders.{IsState};
-ghost use Rattle.smil_model.specs.document.Words.{Begins};
+ghost use Rattle.smil_report.specs.Tellings.{Begins};
 ghost use Rattle.smil_cells.specs.CellsState.{GoesOn, NothingBefore, CellsState, IsSettled, WhereTold, fresh_since, reached_since};
 ghost use Rattle.smil_shown.specs.ShownViews.{IsShown, views_at};
-ghost use Rattle.smil_live.specs.Moves.{IsFirstDue, IsShownAt, IsTooFull, MayMove, changes_by, made, text_of};
+ghost use Rattle.smil_live.specs.Moves.{IsFirstDue, IsShownAt, IsTooFull, MayMove, changes_by, made, told_of};
 ghost use Rattle.smil_shown.specs.ViewTable.{has_view, view_now, with_view};
-ghost use Rattle.smil_shown.specs.Told.{lines_between};
+ghost use Rattle.smil_shown.specs.Told.{told_between};
 
 use super::moves::Move;
 use smil_cells::{Cells, Table};
 use smil_interval::Steps;
-use smil_model::{Bytes, LogEntry, Refusal};
+use smil_model::{GrowingList, LogEntry, Refusal};
+use smil_report::ChangeItem;
 use smil_shown::{Scene, ViewTable, put_view, view_in};
 use std::alloc::AllocError;
 use std::sync::ledger::Ledger;
@@ -38,11 +39,11 @@ impl<T: Table> Drop for Viewer<T> {
 impl<T: Table> Viewer<T> {
     /// Goes on by a move, and tells what it changes. `DiaryFull` where the diary would have too
     /// many entries, `Memory` where memory runs out: after a refusal the cells and the views are to
-    /// go back to a mark, and the text to its length.
-    pub fn go_on<L: Ledger>(
+    /// go back to a mark, and `out` to its length.
+    pub fn go_on<I: ChangeItem, L: Ledger>(
         &mut self,
         step: Move,
-        out: &mut Bytes,
+        out: &mut GrowingList<I>,
         steps: &mut Steps<L>,
     ) -> Result<(), Refusal>
         requires may { MayMove self.old.cells.presentation step }
@@ -50,7 +51,7 @@ impl<T: Table> Viewer<T> {
         ensures ok { OnOk result (IsShownAt (made self.old.cells.presentation step) self.new.cells
             self.new.seen) }
         ensures told { OnOk result (out.new ≡ out.old
-            ++ text_of self.old.cells.presentation (changes_by self.old.cells.presentation step)) }
+            ++ told_of I.telling self.old.cells.presentation (changes_by self.old.cells.presentation step)) }
         ensures refused { IfErr result (IsTooFull (made self.old.cells.presentation step)) }
         ensures marked { self.new.cells.marked ≡ self.old.cells.marked }
         ensures before { self.new.seen.before ≡ self.old.seen.before }
@@ -72,17 +73,17 @@ impl<T: Table> Viewer<T> {
     }
 
     // Goes on up to a moment, and tells the changes of each moment on the way.
-    fn pass_through<L: Ledger>(
+    fn pass_through<I: ChangeItem, L: Ledger>(
         &mut self,
         to: i64,
-        out: &mut Bytes,
+        out: &mut GrowingList<I>,
         steps: &mut Steps<L>,
     ) -> Result<(), Refusal>
         requires may { MayMove self.old.cells.presentation (Move.Pass to) }
         requires shown { IsShown self.old.cells self.old.seen }
         ensures ok { OnOk result (IsShownAt (made self.old.cells.presentation (Move.Pass to))
             self.new.cells self.new.seen) }
-        ensures told { OnOk result (out.new ≡ out.old ++ text_of self.old.cells.presentation
+        ensures told { OnOk result (out.new ≡ out.old ++ told_of I.telling self.old.cells.presentation
             (changes_by self.old.cells.presentation (Move.Pass to))) }
         ensures refused { IfErr result
             (IsTooFull (made self.old.cells.presentation (Move.Pass to))) }
@@ -102,17 +103,17 @@ impl<T: Table> Viewer<T> {
     }
 
     // Goes on up to a moment, and tells what is different there.
-    fn settle_once<L: Ledger>(
+    fn settle_once<I: ChangeItem, L: Ledger>(
         &mut self,
         to: i64,
-        out: &mut Bytes,
+        out: &mut GrowingList<I>,
         steps: &mut Steps<L>,
     ) -> Result<(), Refusal>
         requires may { MayMove self.old.cells.presentation (Move.Settle to) }
         requires shown { IsShown self.old.cells self.old.seen }
         ensures ok { OnOk result (IsShownAt (made self.old.cells.presentation (Move.Settle to))
             self.new.cells self.new.seen) }
-        ensures told { OnOk result (out.new ≡ out.old ++ text_of self.old.cells.presentation
+        ensures told { OnOk result (out.new ≡ out.old ++ told_of I.telling self.old.cells.presentation
             (changes_by self.old.cells.presentation (Move.Settle to))) }
         ensures refused { IfErr result
             (IsTooFull (made self.old.cells.presentation (Move.Settle to))) }
@@ -142,13 +143,13 @@ fn due_by<T: Table>(cells: &Cells<T>, to: i64) -> Option<i64>
     if due <= to { Some(due) } else { None }
 }
 
-// Puts the present views of the touched elements in place of the old ones, and appends the lines of
-// those that differ. The old views are those before the last call to the cells, which changed the
+// Puts the present views of the touched elements in place of the old ones, and tells those that
+// differ. The old views are those before the last call to the cells, which changed the
 // views of no other elements.
-fn put_touched<T: Table>(
+fn put_touched<T: Table, I: ChangeItem>(
     cells: &Cells<T>,
     seen: &mut ViewTable,
-    out: &mut Bytes,
+    out: &mut GrowingList<I>,
 ) -> Result<(), Refusal>
     requires sound { cells.now.fault ≡ None }
     requires state { IsState cells.now.presentation }
@@ -157,7 +158,7 @@ fn put_touched<T: Table>(
         × (cells.now.presentation.document ≡ old.presentation.document) }
     ensures views { OnOk result (seen.new.views ≡ views_at cells.now) }
     ensures told { OnOk result (out.new ≡ out.old
-        ++ lines_between cells.now.presentation.document.nodes cells.now.presentation.now
+        ++ told_between I.telling cells.now.presentation.document.nodes cells.now.presentation.now
         seen.old.views (views_at cells.now)) }
     ensures refused { IfErr result (λ refusal. refusal ≡ Refusal.Memory) }
     ensures before { seen.new.before ≡ seen.old.before }
@@ -169,13 +170,12 @@ fn put_touched<T: Table>(
     Ok(())
 }
 
-// Puts the present view of an element in place of the old one, and appends its line where the two
-// differ.
-fn put_one<T: Table>(
+// Puts the present view of an element in place of the old one, and tells it where the two differ.
+fn put_one<T: Table, I: ChangeItem>(
     cells: &Cells<T>,
     seen: &mut ViewTable,
     serial: u32,
-    out: &mut Bytes,
+    out: &mut GrowingList<I>,
 ) -> Result<(), AllocError>
     requires sound { cells.now.fault ≡ None }
     requires state { IsState cells.now.presentation }
@@ -187,7 +187,7 @@ fn put_one<T: Table>(
         ≡ Some e → OnOk result (seen.new ≡ with_view seen.old (view_now cells.now e)) }
     ensures told { (e : AnyNode) → node_at (elements cells.now.presentation.document.nodes) serial
         ≡ Some e → OnOk result (out.new ≡ out.old
-        ++ lines_between cells.now.presentation.document.nodes cells.now.presentation.now
+        ++ told_between I.telling cells.now.presentation.document.nodes cells.now.presentation.now
         seen.old.views (view_now cells.now e ∷ [])) }
     ensures before { seen.new.before ≡ seen.old.before }
     ensures begins { Begins out.old out.new }

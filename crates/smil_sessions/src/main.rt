@@ -25,6 +25,7 @@
 //! | `end N` | the input ends if N bytes of answers were taken; the session is served |
 //! | `held` | a session that a host holds; it has no words |
 //! | `\|TEXT` | a line that the host gives it, without an end |
+//! | `call\|TEXT` | the order that this line says, given by a call |
 //! | `moment\|NAME` | the host asks at which moment the presentation of this name is |
 //! | `next\|NAME` | .. and at which moment something comes next in it |
 //! | `end` | all that is asked is answered |
@@ -32,8 +33,9 @@
 //! An empty line and one that begins with `#` say nothing. Of each session are written `session`
 //! and the number of its header among all headers, the transcript as it was taken, and `exit` with
 //! the exit number. Of one that a host holds, which has no exit number, the answers to its lines are
-//! written, and each moment that was asked for, with `-` where there is none. A line that has no
-//! reading is left out, and told as `refused` with its number among the lines; so is a header whose
+//! written, and each moment that was asked for, with `-` where there is none; of an order by a call
+//! its records, as change lines with serials, and `ok` with the moment, or the refusal. A line that
+//! has no reading is left out, and told as `refused` with its number among the lines; so is a header whose
 //! session has no end. `memory` in place of `refused` says that memory ran out at the line.
 #![tactic(auto)]
 

@@ -179,14 +179,14 @@ within-bounds (Err fault) text counts so_far session order rise made counted eno
         let least_is : number_of least session order ≡ 0 = refused-0 least least_spares session order fault (sym is) in
         (omega arith, omega arith)
 
-pub evaluated-more : {run : Run} {new : Counts} {orders : List OrderLines} {told : TranscriptState} (order : OrderLines) (answered : Result (Unit {0}) Fault) (text : AnswerText) (so_far : SessionSoFar) (before after : ℕ) →
+pub evaluated-on : {run : Run} {new : Counts} {orders : List OrderLines} {told : TranscriptState} (order : OrderLines) (answered : Result (Unit {0}) Fault) (text : AnswerText) (so_far : SessionSoFar) (before after : ℕ) →
     Tells false run orders told → MakesAnswer answered text so_far told.session answer_of order →
     IsOrderCounted answered (λ bound. number_of bound told.session order) (after - before) → before ≤ after →
-    new ≡ counted_as answered text run.counts → EvaluatesOn run.counts new orders (orders ++ order ∷ []) before after
-evaluated-more {run} {new} {orders} {told} order answered text so_far before after tells made counted le counts start evaluated = record {
+    new.memory ≡ (counted_as answered text run.counts).memory → EvaluatesOn run.counts new orders (orders ++ order ∷ []) before after
+evaluated-on {run} {new} {orders} {told} order answered text so_far before after tells made counted le counts start evaluated = record {
   risen = omega (arith, evaluated.risen, le);
   bounded = λ enough none.
-      let enough_now : (counted_as answered text run.counts).memory ≡ false = ap (λ (k : Counts). k.memory) (sym counts) ∙ enough in
+      let enough_now : (counted_as answered text run.counts).memory ≡ false = sym counts ∙ enough in
       let enough_before : run.counts.memory ≡ false = was_enough answered text run.counts enough_now in
       let one : told ≡ transcript_by answer_of orders = is_one answer_of tells.transcript (sym tells.counted.memory_is ∙ enough_before) in
       let parts = full-snoc untold orders order none in
@@ -201,6 +201,14 @@ evaluated-more {run} {new} {orders} {told} order answered text so_far before aft
         at_most = omega (arith, was.at_most, here.1, sum_is most_of, evaluated.risen, le);
       };
 }
+
+-- the same by all that is counted
+pub evaluated-more : {run : Run} {new : Counts} {orders : List OrderLines} {told : TranscriptState} (order : OrderLines) (answered : Result (Unit {0}) Fault) (text : AnswerText) (so_far : SessionSoFar) (before after : ℕ) →
+    Tells false run orders told → MakesAnswer answered text so_far told.session answer_of order →
+    IsOrderCounted answered (λ bound. number_of bound told.session order) (after - before) → before ≤ after →
+    new ≡ counted_as answered text run.counts → EvaluatesOn run.counts new orders (orders ++ order ∷ []) before after
+evaluated-more order answered text so_far before after tells made counted le counts =
+    evaluated-on order answered text so_far before after tells made counted le (ap (λ (k : Counts). k.memory) counts)
 
 -- before the first order
 pub evaluated-fresh : (counts : Counts) (steps : ℕ) → HasEvaluated counts [] steps steps

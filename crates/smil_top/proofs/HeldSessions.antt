@@ -9,12 +9,15 @@ use Rattle.smil_outside.specs.declared.line.TheConstants.{INPUT_BYTES}
 use Rattle.smil_outside.proofs.LineLemmas.{lines-starts}
 use Rattle.smil_house.specs.declared.house.NamedPlayer.{NamedPlayer}
 use Rattle.smil_house.specs.House.{moment_of, named}
+use Rattle.smil_model.specs.declared.order.Who.{Who}
+use Rattle.smil_house.specs.Screen.{element_in, found_in as found_by, serial_in}
 use Rattle.smil_house.specs.Next.{NothingChangesBefore, next_in, next_of}
 use Rattle.smil_top.specs.declared.held.Held.{Held}
 use Rattle.smil_top.specs.declared.status.Status.{Status}
 use Rattle.smil_top.specs.Answers.{answer_of as order_answer}
 use Rattle.smil_top.specs.Cut.{cut_of, orders, unended}
 use Rattle.smil_top.specs.Houses.{Presentations, Holds}
+use Rattle.smil_top.specs.Recorded.{element_at}
 use Rattle.smil_top.specs.Session.{Session, found_in, presentation_of}
 use Rattle.smil_top.specs.Held.{AreInputLines, IsHeld, input_of}
 use Rattle.smil_top.specs.Serving.{IsWholeTranscript, status_of}
@@ -74,6 +77,14 @@ quiet-by : (P : Presentation → Type 0) (o : Option (NamedPlayer Presentation))
 quiet-by P None holds = tt
 quiet-by P (Some h) holds = holds
 
+serial-by : (who : Who) (o : Option (NamedPlayer Presentation)) → option_and_then (λ (h : NamedPlayer Presentation). serial_in who h.player) o ≡ option_and_then (serial_in who) (option_map (λ (h : NamedPlayer Presentation). h.player) o)
+serial-by who None = refl
+serial-by who (Some h) = refl
+
+element-by : (index : ℕ) (o : Option (NamedPlayer Presentation)) → option_and_then (λ (h : NamedPlayer Presentation). element_at index h.player) o ≡ option_and_then (element_at index) (option_map (λ (h : NamedPlayer Presentation). h.player) o)
+element-by index None = refl
+element-by index (Some h) = refl
+
 module _ (name : List ℕ) (house : Presentations) (session : Session) (holds : Holds house session) where
   pub moment-told : moment_of itself name house ≡ option_map (λ (p : Presentation). pos p.now) (presentation_of name session)
   moment-told =
@@ -87,3 +98,9 @@ module _ (name : List ℕ) (house : Presentations) (session : Session) (holds : 
   quiet-told next quiet =
       subst (λ (o : Option Presentation). IfSome o (NothingChangesBefore next)) (sym (presentation-told name house session holds))
       (quiet-by (NothingChangesBefore next) (named name house) quiet)
+
+  pub serial-told : (who : Who) → found_by itself who name house ≡ option_and_then (serial_in who) (presentation_of name session)
+  serial-told who = serial-by who (named name house) ∙ ap (option_and_then (serial_in who)) (sym (presentation-told name house session holds))
+
+  pub element-told : (index : ℕ) → element_in itself index name house ≡ option_and_then (element_at index) (presentation_of name session)
+  element-told index = element-by index (named name house) ∙ ap (option_and_then (element_at index)) (sym (presentation-told name house session holds))

@@ -3,10 +3,12 @@ pub mod Alone
 pub mod Apart
 pub mod Aside
 pub mod Auditing
+pub mod Carried
 pub mod CutLines
 pub mod Cuts
 pub mod Enough
 pub mod Evaluated
+pub mod GoneOn
 pub mod HeldSessions
 pub mod HouseLemmas
 pub mod InputParts
@@ -20,6 +22,7 @@ pub mod Near
 pub mod Preferring
 pub mod Raised
 pub mod Serving
+pub mod SaidLines
 pub mod SessionCounts
 pub mod SessionEnds
 pub mod SumLemmas

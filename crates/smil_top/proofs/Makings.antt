@@ -21,7 +21,7 @@ use Rattle.smil_live.specs.Counts.{least_number, most_number}
 use Rattle.smil_switch.specs.Preferences.{Wanted, with_preference}
 use Rattle.smil_switch.specs.Gives.{Prefers}
 use Rattle.smil_house.specs.declared.house.NamedPlayer.{NamedPlayer}
-use Rattle.smil_house.specs.House.{place_of, load_refusal, without as house_without, IsAt, IsAnsweredBy, AreKept, IsRefused}
+use Rattle.smil_house.specs.House.{place_of, load_refusal, without as house_without, IsAt, IsAnsweredBy, IsReplaced, AreKept, IsRefused}
 use Rattle.smil_top.specs.declared.answer.Answer.{Answer as AnswerText}
 use Rattle.smil_top.specs.declared.session.Session.{Session as SessionSoFar}
 use Rattle.smil_top.specs.Session.{NamedPresentation, Session, found_in, all_with, all_without, presentation_of, with_state, without, may_join, may_load}
@@ -107,6 +107,20 @@ module _ (name : List ℕ) (order : Order) (so_far : SessionSoFar) (new : Presen
   holds : Holds so_far.house session
   holds = keeps.held
 
+  -- the session in which another presentation has this name
+  pub turned-keeps : (place : ℕ) (before after : NamedPlayer Presentation) → IsReplaced the_formats every name house new place before after →
+      Keeps (in_house so_far new) (with_state name after.player session)
+  turned-keeps place before after turned = record {
+    held = record {
+      session_is =
+          ap (all_with name after.player) holds.session_is
+          ∙ sym (turned-session name house place before after holds.apart turned.at.found turned.at.here turned.name_is)
+          ∙ ap (map shown) (sym turned.new_is);
+      apart = subst AreApart (sym turned.new_is) (turned-apart house place before after holds.apart turned.at.here turned.name_is);
+    };
+    wanted = keeps.wanted;
+  }
+
   -- it is accepted
   pub made-ordered : (text told : List ℕ) (rise : ℕ) (moment : ℤ) → told ≡ text →
       IsAnsweredBy the_formats itself every told_least told_most name order house new text rise moment →
@@ -115,22 +129,12 @@ module _ (name : List ℕ) (order : Order) (so_far : SessionSoFar) (new : Presen
       let before : Presentation = answered.before.player in
       let after : Presentation = answered.after.player in
       let turned = answered.turned in
-      let at = turned.at in
-      let found : presentation_of name session ≡ Some before = held-at name house session answered.place answered.before holds at in
+      let found : presentation_of name session ≡ Some before = held-at name house session answered.place answered.before holds turned.at in
       let line : ok_line number name moment ≡ ok_line number name (pos after.now) = ap (ok_line number name) answered.moment_is in
       let words : told ++ ok_line number name moment ≡ answer_text formats before after order ++ ok_line number name (pos after.now) =
       ap (λ zs. zs ++ ok_line number name moment) (is ∙ answered.accepted.answer) ∙ ap (λ zs. answer_text formats before after order ++ zs) line in (
         with_state name after session,
-        record {
-          held = record {
-            session_is =
-                ap (all_with name after) holds.session_is
-                ∙ sym (turned-session name house answered.place answered.before answered.after holds.apart at.found at.here turned.name_is)
-                ∙ ap (map shown) (sym turned.new_is);
-            apart = subst AreApart (sym turned.new_is) (turned-apart house answered.place answered.before answered.after holds.apart at.here turned.name_is);
-          };
-          wanted = keeps.wanted;
-        },
+        turned-keeps answered.place answered.before answered.after turned,
         ap (λ o. found_presentation o >>= λ (p : Presentation). outcome formats p order >>= λ (q : Presentation). Ok (record { text = answer_text formats p q order ++ ok_line number name (pos q.now); session = with_state name q session })) found
             ∙ ap (λ r. r >>= λ (q : Presentation). Ok (record { text = answer_text formats before q order ++ ok_line number name (pos q.now); session = with_state name q session })) answered.accepted.state
             ∙ ap (λ zs. Ok (record { text = zs; session = with_state name after session })) (sym words),

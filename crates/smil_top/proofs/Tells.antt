@@ -31,7 +31,7 @@ use Rattle.smil_top.specs.Running.{answering, with_order, counted_on, finished, 
 use Rattle.smil_top.proofs.CutLines.{is_short-true, is_short-false}
 
 -- the answer that was made
-abbrev answer_as : Result (Unit {0}) Fault → AnswerText → Session → Answer
+abbrev pub answer_as : Result (Unit {0}) Fault → AnswerText → Session → Answer
 answer_as (Ok done) text after = Ok (record { text = text_of text; session = after })
 answer_as (Err fault) text after = Err fault
 
@@ -43,42 +43,56 @@ counted_as answered text counts = with_order answered (min (line_count (said ans
 one-more : (most n : ℕ) → min (min n most + 1) most ≡ min (n + 1) most
 one-more most n = omega arith
 
-some-more : (most n m : ℕ) → min (min n most + min m most) most ≡ min (n + m) most
-some-more most n m = omega arith
-
 orders-counted : (count : ℕ) (orders : List OrderLines) (order : OrderLines) → count ≡ min (length orders) last_count →
     counted_on count 1 ≡ min (length (orders ++ order ∷ [])) last_count
 orders-counted count orders order is =
     ap (λ n. min (n + 1) last_count) is ∙ one-more last_count (length orders) ∙ ap (λ n. min n last_count) (sym (length-append orders (order ∷ [])))
 
-lines-counted : (count : ℕ) (told text : List ℕ) → count ≡ min (line_count told) last_count →
-    counted_on count (min (line_count text) last_count) ≡ min (line_count (told ++ text)) last_count
-lines-counted count told text is =
-    ap (λ n. min (n + min (line_count text) last_count) last_count) is
-    ∙ some-more last_count (line_count told) (line_count text)
-    ∙ ap (λ n. min n last_count) (sym (sum_by-append (λ byte. cond (byte == line_feed) 1 0) told text))
+left-below : (most n m : ℕ) → min (n + m) most < most → n < most
+left-below most n m below = omega arith
+
+right-below : (most n m : ℕ) → min (n + m) most < most → m < most
+right-below most n m below = omega arith
+
+-- a number below the last one is counted
+all-counted : (most n : ℕ) → min n most < most → min n most ≡ n
+all-counted most n below = omega arith
+
+lines-counted : (count more : ℕ) (told text : List ℕ) → (count < last_count → count ≡ line_count told) → (more < last_count → more ≡ line_count text) →
+    counted_on count more < last_count → counted_on count more ≡ line_count (told ++ text)
+lines-counted count more told text were are below =
+    all-counted last_count (count + more) below
+    ∙ ap (λ n. n + more) (were (left-below last_count count more below))
+    ∙ ap (λ n. line_count told + n) (are (right-below last_count count more below))
+    ∙ sym (sum_by-append (λ byte. cond (byte == line_feed) 1 0) told text)
 
 refused-counted : (b : Bool) (count refused : ℕ) → count ≡ min refused last_count →
     (if b then count else counted_on count 1) ≡ min (if b then refused else suc refused) last_count
 refused-counted true count refused is = is
 refused-counted false count refused is = ap (λ n. min (n + 1) last_count) is ∙ one-more last_count refused ∙ ap (λ n. min n last_count) (omega arith)
 
--- the counts of an order that was answered so
-told-counted : (answered : Result (Unit {0}) Fault) (text : AnswerText) (counts : Counts) (orders : List OrderLines) (told : TranscriptState) (order : OrderLines) (after : Session) →
-    AreCounted counts orders told →
-    AreCounted (with_order answered (min (line_count (said answered text)) last_count) counts) (orders ++ order ∷ []) (with_answer told (answer_as answered text after))
-told-counted (Ok done) text counts orders told order after were = record {
+-- the counts of an order that was answered so, with so many lines where they were counted
+pub told-counted : (answered : Result (Unit {0}) Fault) (text : AnswerText) (lines : ℕ) (counts : Counts) (orders : List OrderLines) (told : TranscriptState) (order : OrderLines) (after : Session) →
+    (lines < last_count → lines ≡ line_count (said answered text)) → AreCounted counts orders told →
+    AreCounted (with_order answered lines counts) (orders ++ order ∷ []) (with_answer told (answer_as answered text after))
+told-counted (Ok done) text lines counts orders told order after are were = record {
   orders_are = orders-counted counts.orders orders order were.orders_are;
   refused_is = were.refused_is;
-  lines_are = lines-counted counts.lines told.text (text_of text) were.lines_are;
+  lines_are = lines-counted counts.lines lines told.text (text_of text) were.lines_are are;
   memory_is = were.memory_is;
 }
-told-counted (Err fault) text counts orders told order after were = record {
+told-counted (Err fault) text lines counts orders told order after are were = record {
   orders_are = orders-counted counts.orders orders order were.orders_are;
   refused_is = refused-counted (is_memory fault.refusal) counts.refused told.refused were.refused_is;
-  lines_are = lines-counted counts.lines told.text (refusal_line fault.line fault.refusal) were.lines_are;
+  lines_are = lines-counted counts.lines lines told.text (refusal_line fault.line fault.refusal) were.lines_are are;
   memory_is = ap (λ b. b || is_memory fault.refusal) were.memory_is;
 }
+
+-- the same with the lines of its text
+told-whole : (answered : Result (Unit {0}) Fault) (text : AnswerText) (counts : Counts) (orders : List OrderLines) (told : TranscriptState) (order : OrderLines) (after : Session) → AreCounted counts orders told →
+    AreCounted (counted_as answered text counts) (orders ++ order ∷ []) (with_answer told (answer_as answered text after))
+told-whole answered text counts orders told order after were =
+    told-counted answered text (min (line_count (said answered text)) last_count) counts orders told order after (all-counted last_count (line_count (said answered text))) were
 
 -- ---- one order more
 
@@ -93,7 +107,7 @@ told-more checks run new whole told order (Ok done) text tells made same counts 
     checks_is = same ∙ tells.checks_is;
     transcript = and_then tells.transcript order (answer_as (Ok done) text made.0) (inl (sym made.2));
     keeps = made.1;
-    counted = subst (λ (k : Counts). AreCounted k (whole ++ order ∷ []) (with_answer told (answer_as (Ok done) text made.0))) (sym counts) (told-counted (Ok done) text run.counts whole told order made.0 tells.counted);
+    counted = subst (λ (k : Counts). AreCounted k (whole ++ order ∷ []) (with_answer told (answer_as (Ok done) text made.0))) (sym counts) (told-whole (Ok done) text run.counts whole told order made.0 tells.counted);
   },
   refl,
 )
@@ -103,7 +117,7 @@ told-more checks run new whole told order (Err fault) text tells made same count
     checks_is = same ∙ tells.checks_is;
     transcript = and_then tells.transcript order (Err fault) made.1;
     keeps = made.0;
-    counted = subst (λ (k : Counts). AreCounted k (whole ++ order ∷ []) (with_answer told (answer_as (Err fault) text told.session))) (sym counts) (told-counted (Err fault) text run.counts whole told order told.session tells.counted);
+    counted = subst (λ (k : Counts). AreCounted k (whole ++ order ∷ []) (with_answer told (answer_as (Err fault) text told.session))) (sym counts) (told-whole (Err fault) text run.counts whole told order told.session tells.counted);
   },
   refl,
 )

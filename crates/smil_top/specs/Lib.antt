@@ -13,3 +13,4 @@ pub mod Laws
 pub mod Evaluations
 pub mod AuditInputs
 pub mod Held
+pub mod Recorded

@@ -205,12 +205,12 @@ with_order (Err fault) lines counts = record counts {
   memory = counts.memory || is_memory fault.refusal;
 }
 
--- what is counted of these orders, told so
+-- what is counted of these orders, told so; lines are counted where the count is below the last one
 pub record AreCounted
     (counts : Counts) (orders : List OrderLines) (told : TranscriptState) : Type 0 where
   pub orders_are : counts.orders ≡ min (length orders) last_count
   pub refused_is : counts.refused ≡ min told.refused last_count
-  pub lines_are : counts.lines ≡ min (line_count told.text) last_count
+  pub lines_are : counts.lines < last_count → counts.lines ≡ line_count told.text
   pub memory_is : counts.memory ≡ told.memory
 
 -- no count stands at its end

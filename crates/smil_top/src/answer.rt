@@ -1,6 +1,6 @@
 //! The text of an answer, made whole before it is written.
 
-ghost use Rattle.std.specs.Prelude.{◌≡◌, min, OnOk, OnErr};
+ghost use Rattle.std.specs.Prelude.{◌≡◌, ◌≤◌, length, min, OnOk, OnErr};
 ghost use Rattle.smil_outside.specs.Faults.{HasRisen, last_count};
 ghost use Rattle.smil_top.specs.Running.{Writes, finished, no_text, text_of};
 ghost use Rattle.smil_top.specs.Summary.{line_count};
@@ -10,6 +10,9 @@ use super::last_line::LastLine;
 use smil_model::Bytes;
 use smil_outside::{Failed, Sink, write_all};
 use std::alloc::Global;
+
+/// The most bytes that are counted at a time, so that the count fits a byte.
+const CHUNK: usize = 255;
 
 /// The answer to an order: what it tells, and its last line.
 #[derive(Drop)]
@@ -67,9 +70,28 @@ impl Answer {
     }
 }
 
-// How many line feeds stand in a text.
+// How many line feeds stand in a text, which is counted in chunks whose counts fit a byte.
 fn line_feeds(text: &[u8]) -> u64
     ensures { result ≡ line_count text.now }
 {
-    text.iter().filter(|byte| **byte == b'\n').count() as u64
+    let mut lines = 0;
+    let mut rest = text;
+    while !rest.is_empty() {
+        let (chunk, behind) = rest.split_at(rest.len().min(CHUNK));
+        lines += u64::from(line_feeds_in(chunk));
+        rest = behind;
+    }
+    lines
+}
+
+// How many line feeds stand in a chunk.
+fn line_feeds_in(chunk: &[u8]) -> u8
+    requires { length chunk.now ≤ 255 }
+    ensures { result ≡ line_count chunk.now }
+{
+    let mut lines = 0;
+    for byte in chunk {
+        lines += u8::from(*byte == b'\n');
+    }
+    lines
 }

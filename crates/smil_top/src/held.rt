@@ -1,43 +1,67 @@
 //! A session that a host holds, and to which it gives one line after another.
 
-ghost use Rattle.std.specs.Prelude.{◌≡◌, ◌≤◌, ◌++◌, [], length, option_and_then, option_map, pos, IfOk, IfSome, OnErr, OnOk};
+ghost use Rattle.std.specs.Prelude.{◌≡◌, ℕ, List, false, ◌≤◌, ◌++◌, [], length, option_and_then, option_map, pos, IfOk, IfSome, OnErr, OnOk};
 ghost use Rattle.smil_model.specs.shown.Orders.{Presentation};
+ghost use Rattle.smil_model.specs.shown.Answers.{IsGiven};
 ghost use Rattle.smil_house.specs.Next.{NothingChangesBefore, next_of};
+ghost use Rattle.smil_house.specs.Screen.{serial_in};
+ghost use Rattle.smil_report.specs.Tellings.{is_telling};
 ghost use Rattle.smil_top.specs.Cut.{CutLines, cut_of, with_line};
 ghost use Rattle.smil_top.specs.Held.{HasTaken, IsHeld, answer_of, counts_of, last_number};
+ghost use Rattle.smil_top.specs.Recorded.{CarriesOut, HasPresentations, IsLikeLine, Says, WhereTaken, element_at};
 ghost use Rattle.smil_top.specs.Running.{EvaluatesOn, IsLine};
-ghost use Rattle.smil_top.specs.Session.{presentation_of};
+ghost use Rattle.smil_top.specs.Session.{Session, presentation_of};
 ghost use Rattle.smil_top.specs.Transcript.{TranscriptState, untold};
 
 use super::nowhere::Nowhere;
+use super::recorded::NumberedOrder;
 use super::run::{NumberedLine, Run};
+use smil_house::OnScreen;
 use smil_interval::Steps;
+use smil_model::{Order, Refusal, Who};
 use smil_outside::LINE_BYTES;
+use smil_report::{Change, Changes};
 use std::alloc::{AllocError, Global};
 use std::sync::ledger::Ledger;
 
-/// A session that is given its lines from outside, and keeps the answer to the last one.
+/// A session that is given its lines and orders from outside. It keeps the answer to the last line,
+/// and the records of what the last call changed.
 ///
-/// It answers its lines as `serve` answers those of an input, by `run`.
+/// It answers its lines as `serve` answers those of an input, by `run`. An order that is given by a
+/// call counts as a line that says it.
 #[derive(Drop)]
 pub struct Held {
     run: Run,
     number: u32,
+    changes: Changes,
 }
 
 /// There were as many lines as can be numbered, `u32::MAX`.
 #[derive(Clone, Copy, Drop)]
 pub struct TooManyLines;
 
+/// Why an order that was given by a call changed nothing.
+#[derive(Clone, Copy, Drop)]
+pub enum CallRefusal {
+    /// It is refused as a line that says it is.
+    Refused(Refusal),
+    /// A load that was begun by a line hasn't ended.
+    OpenLoad,
+    /// There were as many lines and orders as can be numbered, `u32::MAX`.
+    TooManyCalls,
+}
+
 impl Held {
     /// A session before its first line; unless memory runs out.
     pub fn new(alloc: Global) -> Result<Held, AllocError>
         ensures held { IfOk result (λ held. IsHeld held (cut_of []) untold) }
         ensures answer { IfOk result (λ held. answer_of held ≡ []) }
+        ensures changes { IfOk result (λ held. held.changes ≡ []) }
     {
         Ok(Held {
             run: Run::new(alloc, false)?,
             number: 0,
+            changes: Changes::new(alloc),
         })
     }
 
@@ -51,6 +75,9 @@ impl Held {
         // More is told, and it is the answer.
         ensures answers { (cut : CutLines) (told : TranscriptState) → IsHeld self.old cut told
             → OnOk result (HasTaken self.new (with_line cut text.now) told) }
+
+        // A line leaves no records.
+        ensures changes { OnOk result (self.new.changes ≡ []) }
 
         // A line too many changes nothing.
         ensures full { (cut : CutLines) (told : TranscriptState) → IsHeld self.old cut told
@@ -67,12 +94,90 @@ impl Held {
             return Err(TooManyLines);
         }
         self.number += 1;
+        self.changes.cut_back(0);
         let line = NumberedLine {
             number: self.number,
             text: shown(text),
         };
         let _ = self.run.line(&line, &mut Nowhere, steps);
         Ok(())
+    }
+
+    /// Gives an order that may change something to the presentation of this name, in the place of a
+    /// line that says it, and keeps the records of what it changes. Gives the moment of the
+    /// presentation, in milliseconds of document time, or why nothing changed; where an order is
+    /// refused nothing is recorded. The answer to the last line stays.
+    ///
+    /// The order's moments and lengths are clock values, its event and its key are such as a line
+    /// may name, and its columns and the lengths of its texts are below 2^31.
+    pub fn change<L: Ledger>(
+        &mut self,
+        name: &[u8],
+        order: &Order,
+        steps: &mut Steps<L>,
+    ) -> Result<i64, CallRefusal>
+        requires given { IsGiven order.now }
+        requires changes { is_telling order.now ≡ false }
+
+        // What it makes of the presentations, whatever came before.
+        ensures carried { (session : Session) → HasPresentations self.old session
+            → CarriesOut result self.old self.new session name.now order.now }
+
+        // The session goes on as by a line.
+        ensures like { (cut : CutLines) (told : TranscriptState) (line : List ℕ)
+            → IsHeld self.old cut told → Says line name.now order.now
+            → IsLikeLine result self.old self.new cut told line }
+        ensures answer { answer_of self.new ≡ answer_of self.old }
+
+        // How often intervals were evaluated.
+        ensures counted { steps.old ≤ steps.new }
+        ensures evaluated { (cut : CutLines) (told : TranscriptState) (line : List ℕ)
+            → IsHeld self.old cut told → Says line name.now order.now
+            → WhereTaken result (EvaluatesOn (counts_of self.old) (counts_of self.new) cut.whole
+            (with_line cut line).whole steps.old steps.new) }
+    {
+        if self.number == u32::MAX {
+            return Err(CallRefusal::TooManyCalls);
+        }
+        if self.run.load.is_some() {
+            return Err(CallRefusal::OpenLoad);
+        }
+        let given = NumberedOrder {
+            number: self.number + 1,
+            name,
+            order,
+        };
+        self.number = given.number;
+        self.changes.cut_back(0);
+        match self.run.change(&given, &mut self.changes, steps) {
+            Ok(now) => Ok(now),
+            Err(refusal) => Err(CallRefusal::Refused(refusal)),
+        }
+    }
+
+    /// The serial of a node of the presentation of this name, by its id or its serial; None where
+    /// there is no such node, or no such presentation.
+    pub fn find(&self, name: &[u8], who: &Who) -> Option<u32>
+        ensures { (session : Session) → HasPresentations self.now session
+            → result ≡ option_and_then (serial_in who.now) (presentation_of name.now session) }
+    {
+        self.run.session.house.find(name, who)
+    }
+
+    /// What is on the screen of the element at a place in document order, from 0, of the
+    /// presentation of this name; None past the last one, or where there is no such presentation.
+    pub fn on_screen(&self, name: &[u8], index: usize) -> Option<OnScreen>
+        ensures { (session : Session) → HasPresentations self.now session
+            → result ≡ option_and_then (element_at index) (presentation_of name.now session) }
+    {
+        self.run.session.house.on_screen(name, index)
+    }
+
+    /// What the last call changed, in the order of the transcript; nothing where it was a line.
+    pub fn changes(&self) -> &[Change]
+        ensures { result.now ≡ self.now.changes }
+    {
+        self.changes.slice()
     }
 
     /// The answer to the last line, in two pieces; both are empty where it had none.

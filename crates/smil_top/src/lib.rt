@@ -15,12 +15,13 @@ mod loaded;
 mod loading;
 mod nowhere;
 mod reading;
+mod recorded;
 mod run;
 mod session;
 mod status;
 mod top;
 
 pub use call::Call;
-pub use held::{Held, TooManyLines};
+pub use held::{CallRefusal, Held, TooManyLines};
 pub use status::Status;
 pub use top::serve;

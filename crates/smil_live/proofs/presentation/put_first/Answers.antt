@@ -1,7 +1,8 @@
 use Rattle.std.proofs.Common.{◌∙◌, refl, sym, ap}
+use Rattle.smil_report.proofs.Growing.{begins_long, cut_again}
 use Rattle.smil_shown.specs.ViewTable.{ViewLists}
 use Rattle.smil_shown.proofs.AllViews.{of_nodes}
-use Rattle.smil_live.proofs.EditedPresentations.{begins_long, cut_again, where_err}
+use Rattle.smil_live.proofs.EditedPresentations.{where_err}
 use Rattle.smil_live.proofs.Opened.{told_load}
 use Rattle.smil_live.proofs.TouchedViews.{where_not_err}
 use Rattle.smil_live.proofs.presentation.put_first.Goals as goal
@@ -21,6 +22,6 @@ returns-then-is_err-clause-text g c =
 
 pub returns-clause-answer : goal.returns-clause-answer
 returns-clause-answer g c =
-    told_load c.args.cells.now c.tree.result.now c.none.result.views c.in_ok-seen.seen.views 0 c.args.out.now c.put_differences.new.out c.requires.replayed.settled
+    told_load g.I.ChangeItem.telling c.args.cells.now c.tree.result.now c.none.result.views c.in_ok-seen.seen.views 0 c.args.out.now c.put_differences.new.out c.requires.replayed.settled
     c.tree.ensures (ap (λ (x : ViewLists). x.views) c.none.ensures) (ap (λ (x : ViewLists). x.views) c.in_ok-seen.ensures) (sym c.requires.moment)
     (where_not_err c.put_differences.result _ (sym c.is_err.ensures.value ∙ c.if-is_err.false) (c.put_differences.ensures.ok 0 refl))

@@ -30,11 +30,11 @@ returns-then-branch-clause-told g c = λ e at.
     let v = c.view_in-view.result in
     let fits : SFits w64 c.moment.result = search rules in
     let differ = sym c.in_ok-put.ensures.differs ∙ c.if-branch.true in
-    on_line c.put_view.result c.tree.result.now s.presentation.document s.presentation.now _ c.args.seen.now.views v (view_now s e) c.args.out.now c.put_view.new.out c.tree.ensures
+    on_line g.I.ChangeItem.telling c.put_view.result c.tree.result.now s.presentation.document s.presentation.now _ c.args.seen.now.views v (view_now s e) c.args.out.now c.put_view.new.out c.tree.ensures
     (to_z-of_z w64 c.moment.result fits ∙ c.moment.ensures) (c.view_in-view.ensures e at) differ c.put_view.ensures.ok
 
 pub returns-else-branch-clause-told : goal.returns-else-branch-clause-told
 returns-else-branch-clause-told g c = λ e at.
     let s = c.args.cells.now in
     let differ = sym c.in_ok-put.ensures.differs ∙ c.if-branch.false in
-    no_line s.presentation.document.nodes s.presentation.now c.args.seen.now.views c.view_in-view.result (view_now s e) c.args.out.now (c.view_in-view.ensures e at) differ
+    no_line g.I.ChangeItem.telling s.presentation.document.nodes s.presentation.now c.args.seen.now.views c.view_in-view.result (view_now s e) c.args.out.now (c.view_in-view.ensures e at) differ

@@ -30,7 +30,7 @@ pub loop-serial-init : goal.loop-serial-init
 loop-serial-init g c =
     let s = c.args.cells.now in
     let first = c.args.seen.now.views in
-    way_begins s.presentation.document.nodes s.presentation.now first (touched_views s) c.args.out.now c.args.seen.now.before c.args.seen.now refl refl (left_first s first (from g (goal.at.loop-serial-init g c).After-slice-serial-items))
+    way_begins g.I.ChangeItem.telling s.presentation.document.nodes s.presentation.now first (touched_views s) c.args.out.now c.args.seen.now.before c.args.seen.now refl refl (left_first s first (from g (goal.at.loop-serial-init g c).After-slice-serial-items))
 
 pub put_one-requires-clause-element : goal.put_one-requires-clause-element
 put_one-requires-clause-element g c =
@@ -45,7 +45,7 @@ put_one-requires-clause-known g c =
     let i = c.loop-serial.serial-index in
     let views = c.loop-serial.seen.views in
     let t = turn_at g (goal.at.put_one-requires-clause-known g c).After-slice-serial-items i c.loop-serial-test.true in
-    let known = known_next nodes s.presentation.now c.args.seen.now.views (touched_views s) c.args.out.now c.args.seen.now.before c.loop-serial.seen i (blank 0) c.loop-serial.out c.loop-serial.invariant t.below in
+    let known = known_next g.I.ChangeItem.telling nodes s.presentation.now c.args.seen.now.views (touched_views s) c.args.out.now c.args.seen.now.before c.loop-serial.seen i (blank 0) c.loop-serial.out c.loop-serial.invariant t.below in
     subst (λ (l : List ℕ). has_view views (get_or l i 0) ≡ true) (sym (same g (goal.at.put_one-requires-clause-known g c).After-slice-serial-items))
     (subst (λ (k : ℕ). has_view views k ≡ true) (own_serial (elements nodes) (get_or s.touched i 0) t.element t.at)
     (subst (λ v. has_view views v.serial ≡ true) t.view known))
@@ -57,7 +57,7 @@ loop-serial-preserved g c =
     let i = c.loop-serial.serial-index in
     let t = turn_at g (goal.at.loop-serial-preserved g c).After-slice-serial-items i c.loop-serial-test.true in
     let at = subst (λ (l : List ℕ). node_at (elements nodes) (get_or l i 0) ≡ Some t.element) (sym (same g (goal.at.loop-serial-preserved g c).After-slice-serial-items)) t.at in
-    way_on nodes s.presentation.now c.args.seen.now.views (touched_views s) c.args.out.now c.args.seen.now.before c.loop-serial.seen c.put_one.new.seen i (blank 0) (view_now s t.element) c.loop-serial.out c.put_one.new.out c.loop-serial.invariant t.below t.view
+    way_on g.I.ChangeItem.telling nodes s.presentation.now c.args.seen.now.views (touched_views s) c.args.out.now c.args.seen.now.before c.loop-serial.seen c.put_one.new.seen i (blank 0) (view_now s t.element) c.loop-serial.out c.put_one.new.out c.loop-serial.invariant t.below t.view
     (c.in_ok-put_one.ensures.view t.element at)
     (c.in_ok-put_one.ensures.told t.element at)
     c.put_one.ensures.begins
@@ -67,7 +67,7 @@ returns-clause-views g c =
     let s = c.args.cells.now in
     let first = c.args.seen.now.views in
     let i = c.loop-serial.serial-index in
-    views_end s.presentation.document.nodes s.presentation.now first (touched_views s) c.args.out.now c.args.seen.now.before c.loop-serial.seen i c.loop-serial.out c.loop-serial.invariant (all_put g (goal.at.returns-clause-views g c).After-slice-serial-items i c.loop-serial-test.false)
+    views_end g.I.ChangeItem.telling s.presentation.document.nodes s.presentation.now first (touched_views s) c.args.out.now c.args.seen.now.before c.loop-serial.seen i c.loop-serial.out c.loop-serial.invariant (all_put g (goal.at.returns-clause-views g c).After-slice-serial-items i c.loop-serial-test.false)
     ∙ views_last s first (from g (goal.at.returns-clause-views g c).After-slice-serial-items)
 
 pub returns-clause-told : goal.returns-clause-told
@@ -75,5 +75,5 @@ returns-clause-told g c =
     let s = c.args.cells.now in
     let first = c.args.seen.now.views in
     let i = c.loop-serial.serial-index in
-    told_end s.presentation.document.nodes s.presentation.now first (touched_views s) c.args.out.now c.args.seen.now.before c.loop-serial.seen i c.loop-serial.out c.loop-serial.invariant (all_put g (goal.at.returns-clause-told g c).After-slice-serial-items i c.loop-serial-test.false)
-    ∙ ap (λ l. c.args.out.now ++ l) (told_last s first (from g (goal.at.returns-clause-told g c).After-slice-serial-items))
+    told_end g.I.ChangeItem.telling s.presentation.document.nodes s.presentation.now first (touched_views s) c.args.out.now c.args.seen.now.before c.loop-serial.seen i c.loop-serial.out c.loop-serial.invariant (all_put g (goal.at.returns-clause-told g c).After-slice-serial-items i c.loop-serial-test.false)
+    ∙ ap (λ l. c.args.out.now ++ l) (told_last s first (from g (goal.at.returns-clause-told g c).After-slice-serial-items) g.I.ChangeItem.telling)

@@ -1,11 +1,11 @@
 use Rattle.std.proofs.Common.{◌≡◌, ◌++◌, ℕ, pos, drop}
-use Rattle.smil_model.specs.document.Words.{Begins}
-use Rattle.smil_shown.specs.Told.{lines_between}
+use Rattle.smil_report.specs.Tellings.{Begins}
+use Rattle.smil_shown.specs.Told.{told_between}
 use Rattle.smil_shown.proofs.lines.put_differences.Given as goal
 
 abbrev pub invariant-loop-view : goal.invariant-loop-view
-invariant-loop-view l = record {
+invariant-loop-view g l = record {
   told : (m : ℕ) → l.scene.moment ≡ pos m
-      → l.out ++ lines_between l.scene.tree.now.nodes m l.before.views (drop l.view-index l.after.views) ≡ l.fn.out ++ lines_between l.scene.tree.now.nodes m l.before.views l.after.views;
+      → l.out ++ told_between g.I.ChangeItem.telling l.scene.tree.now.nodes m l.before.views (drop l.view-index l.after.views) ≡ l.fn.out ++ told_between g.I.ChangeItem.telling l.scene.tree.now.nodes m l.before.views l.after.views;
   begins : Begins l.fn.out l.out;
 }

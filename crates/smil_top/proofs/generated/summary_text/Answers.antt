@@ -23,7 +23,7 @@ returns c orders told tells =
     ap (λ n. count_lines n counts.orders counts.refused counts.lines c.unsigned_abs.result) c.from.ensures
     ∙ ap (λ n. count_lines c.args.number n counts.refused counts.lines c.unsigned_abs.result) (exact counts.orders (length orders) tells.counted.orders_are are.orders_are)
     ∙ ap (λ n. count_lines c.args.number (length orders) n counts.lines c.unsigned_abs.result) (exact counts.refused told.refused tells.counted.refused_is are.refused_is)
-    ∙ ap (λ n. count_lines c.args.number (length orders) told.refused n c.unsigned_abs.result) (exact counts.lines (line_count told.text) tells.counted.lines_are are.lines_are)
+    ∙ ap (λ n. count_lines c.args.number (length orders) told.refused n c.unsigned_abs.result) (tells.counted.lines_are are.lines_are)
     ∙ ap (λ n. count_lines c.args.number (length orders) told.refused (line_count told.text) n) moment_is
     in
     IfOk-weaker c.lines.result (λ text. text ≡ count_lines c.from.result counts.orders counts.refused counts.lines c.unsigned_abs.result) (λ text. text ≡ told_of c.args.number orders told) (λ text is. is ∙ same) c.lines.ensures

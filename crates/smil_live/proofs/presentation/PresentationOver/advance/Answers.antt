@@ -19,7 +19,7 @@ returns-clause-ok g c =
     let most = within_horizon p state in
     let now : c.moment.result ≡ pos p.now = subst (λ (q : Presentation). c.moment.result ≡ pos q.now) c.self.view_is c.moment.ensures in
     let sum : to_z w64 (of_z w64 (to_z w64 (of_z w64 c.moment.result) +ℤ to_z w64 (of_z w64 c.args.by))) ≡ pos p.now +ℤ c.args.by = omega (arith, ints, given.0, given.1, most, now) in
-    advanced_to p c.go.new.self c.args.by _ c.args.out.now c.go.new.out given.0 sum c.in_ok-go.ensures.state c.settled.ensures.state c.settled.ensures.diary c.in_ok-go.ensures.told
+    advanced_to g.I.ChangeItem.telling p c.go.new.self c.args.by _ c.args.out.now c.go.new.out given.0 sum c.in_ok-go.ensures.state c.settled.ensures.state c.settled.ensures.diary c.in_ok-go.ensures.told
 
 pub returns-clause-bounded : goal.returns-clause-bounded
 returns-clause-bounded g c =

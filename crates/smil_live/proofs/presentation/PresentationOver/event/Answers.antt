@@ -30,7 +30,7 @@ is_heard g c =
 
 pub returns-clause-ok : goal.returns-clause-ok
 returns-clause-ok g c =
-    on_ok_weaker c.hear.result (heard_answered c.args.self.now c.hear.new.self (order.Event c.args.who.now c.args.name.now) (happening.Event c.in_ok-serial.serial c.in_ok-name.name) (drop (length c.args.out.now) c.hear.new.out) (is_heard g (goal.at.returns-clause-ok g c).After-hear) refl) c.hear.ensures.ok
+    on_ok_weaker c.hear.result (heard_answered g.I.ChangeItem.telling c.args.self.now c.hear.new.self (order.Event c.args.who.now c.args.name.now) (happening.Event c.in_ok-serial.serial c.in_ok-name.name) (drop (length c.args.out.now) c.hear.new.out) (is_heard g (goal.at.returns-clause-ok g c).After-hear) refl) c.hear.ensures.ok
 
 pub returns-clause-refused : goal.returns-clause-refused
 returns-clause-refused g c =
@@ -40,7 +40,7 @@ returns-clause-refused g c =
 
 pub returns-clause-bounded : goal.returns-clause-bounded
 returns-clause-bounded g c =
-    bounded_then c.hear.result g.T.Table.counts c.args.self.now c.hear.new.self (order.Event c.args.who.now c.args.name.now) (drop (length c.args.out.now) c.hear.new.out) (c.hear.new.steps - c.args.steps.now) (returns-clause-ok g c)
+    bounded_then g.I.ChangeItem.telling c.hear.result g.T.Table.counts c.args.self.now c.hear.new.self (order.Event c.args.who.now c.args.name.now) (drop (length c.args.out.now) c.hear.new.out) (c.hear.new.steps - c.args.steps.now) (returns-clause-ok g c)
     c.hear.ensures.most c.hear.ensures.least (c.hear.ensures.free (told_where g.T.Table.counts (most_number c.args.self.now (order.Event c.args.who.now c.args.name.now))))
 
 pub returns-in_err-serial-clause-bounded : goal.returns-in_err-serial-clause-bounded

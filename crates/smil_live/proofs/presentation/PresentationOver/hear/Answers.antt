@@ -4,7 +4,7 @@ use Rattle.smil_model.specs.declared.limits.TheConstants.{LOG_ENTRIES}
 use Rattle.smil_model.specs.shown.Orders.{IsState, Presentation, changes_between}
 use Rattle.smil_cells.specs.CellsState.{WhereTold, with_logged}
 use Rattle.smil_live.specs.Counts.{least_onward, most_onward}
-use Rattle.smil_live.specs.Moves.{text_of}
+use Rattle.smil_live.specs.Moves.{told_of}
 use Rattle.smil_live.proofs.Outcomes.{heard_as}
 use Rattle.smil_shown.proofs.PresentMoments.{within_horizon}
 use Rattle.smil_live.proofs.presentation.PresentationOver.hear.Goals as goal
@@ -20,10 +20,10 @@ returns-clause-ok g c =
     let long : c.len.result ≡ length p.log = c.len.ensures ∙ ap length (c.log.ensures ∙ ap (λ (x : Presentation). x.log) c.self.view_is) in
     let below = c.if-len-ge-LOG_ENTRIES.false in
     let room : length p.log < LOG_ENTRIES = omega (arith, long, below) in
-    heard_as p q what c.args.out.now c.go.new.out room
+    heard_as g.I.ChangeItem.telling p q what c.args.out.now c.go.new.out room
     (subst (λ (m : ℤ). q ≡ with_logged p (record { moment = m; what = what })) there c.in_ok-go.ensures.state)
     c.settled.ensures.diary
-    (subst (λ (m : ℤ). c.go.new.out ≡ c.args.out.now ++ text_of p (changes_between p (with_logged p (record { moment = m; what = what })))) there c.in_ok-go.ensures.told)
+    (subst (λ (m : ℤ). c.go.new.out ≡ c.args.out.now ++ told_of g.I.ChangeItem.telling p (changes_between p (with_logged p (record { moment = m; what = what })))) there c.in_ok-go.ensures.told)
 
 pub returns-clause-most : goal.returns-clause-most
 returns-clause-most g c =

@@ -52,7 +52,7 @@ pub returns-clause-ok : goal.returns-clause-ok
 returns-clause-ok g c =
     let at = goal.at.returns-clause-ok g c in
     on_ok_weaker c.hear.result
-    (heard_answered c.args.self.now c.hear.new.self (order.Media c.args.who.now c.args.length) (happening.Media c.in_ok-serial.serial (to_z w64 (of_z w64 c.args.length))) (drop (length c.args.out.now) c.hear.new.out) (is_heard g at.After-hear (kind g at.After-kind)) refl) c.hear.ensures.ok
+    (heard_answered g.I.ChangeItem.telling c.args.self.now c.hear.new.self (order.Media c.args.who.now c.args.length) (happening.Media c.in_ok-serial.serial (to_z w64 (of_z w64 c.args.length))) (drop (length c.args.out.now) c.hear.new.out) (is_heard g at.After-hear (kind g at.After-kind)) refl) c.hear.ensures.ok
 
 pub returns-clause-refused : goal.returns-clause-refused
 returns-clause-refused g c =
@@ -63,7 +63,7 @@ returns-clause-refused g c =
 
 pub returns-clause-bounded : goal.returns-clause-bounded
 returns-clause-bounded g c =
-    bounded_then c.hear.result g.T.Table.counts c.args.self.now c.hear.new.self (order.Media c.args.who.now c.args.length) (drop (length c.args.out.now) c.hear.new.out) (c.hear.new.steps - c.args.steps.now) (returns-clause-ok g c)
+    bounded_then g.I.ChangeItem.telling c.hear.result g.T.Table.counts c.args.self.now c.hear.new.self (order.Media c.args.who.now c.args.length) (drop (length c.args.out.now) c.hear.new.out) (c.hear.new.steps - c.args.steps.now) (returns-clause-ok g c)
     c.hear.ensures.most c.hear.ensures.least (c.hear.ensures.free (told_where g.T.Table.counts (most_number c.args.self.now (order.Media c.args.who.now c.args.length))))
 
 pub returns-in_err-serial-clause-bounded : goal.returns-in_err-serial-clause-bounded

@@ -12,7 +12,7 @@ use Rattle.smil_live.proofs.presentation.PresentationOver.press.Goals as goal
 
 pub returns-clause-ok : goal.returns-clause-ok
 returns-clause-ok g c =
-    on_ok_weaker c.hear.result (heard_answered c.args.self.now c.hear.new.self (order.Key c.args.key) (happening.Key c.args.key) (drop (length c.args.out.now) c.hear.new.out) refl refl) c.hear.ensures.ok
+    on_ok_weaker c.hear.result (heard_answered g.I.ChangeItem.telling c.args.self.now c.hear.new.self (order.Key c.args.key) (happening.Key c.args.key) (drop (length c.args.out.now) c.hear.new.out) refl refl) c.hear.ensures.ok
 
 pub returns-clause-refused : goal.returns-clause-refused
 returns-clause-refused g c =
@@ -21,5 +21,5 @@ returns-clause-refused g c =
 
 pub returns-clause-bounded : goal.returns-clause-bounded
 returns-clause-bounded g c =
-    bounded_then c.hear.result g.T.Table.counts c.args.self.now c.hear.new.self (order.Key c.args.key) (drop (length c.args.out.now) c.hear.new.out) (c.hear.new.steps - c.args.steps.now) (returns-clause-ok g c)
+    bounded_then g.I.ChangeItem.telling c.hear.result g.T.Table.counts c.args.self.now c.hear.new.self (order.Key c.args.key) (drop (length c.args.out.now) c.hear.new.out) (c.hear.new.steps - c.args.steps.now) (returns-clause-ok g c)
     c.hear.ensures.most c.hear.ensures.least (c.hear.ensures.free (told_where g.T.Table.counts (most_number c.args.self.now (order.Key c.args.key))))

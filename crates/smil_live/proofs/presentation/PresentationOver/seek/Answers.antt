@@ -8,7 +8,7 @@ use Rattle.smil_grammar.specs.Formats.{formats}
 use Rattle.smil_tree.proofs.Results.{on_err}
 use Rattle.smil_cells.specs.CellsState.{WhereTold}
 use Rattle.smil_live.specs.Counts.{least_onward, most_onward}
-use Rattle.smil_live.specs.Moves.{IsTooFull, text_of}
+use Rattle.smil_live.specs.Moves.{IsTooFull, told_of}
 use Rattle.smil_live.proofs.CountedOrders.{bounded_too_full, seek_bounded}
 use Rattle.smil_live.proofs.Outcomes.{clock_from, not_above, moved_as_sought, not_sought, sought, within_sought}
 use Rattle.smil_live.proofs.Standings.{state_then}
@@ -32,9 +32,9 @@ returns-clause-ok g c =
     let to = c.args.to in
     let there : to_z w64 (of_z w64 to) ≡ to = to_z-of_z w64 to c.ranges.to in
     let moved : q ≡ as_of p (nat_abs to) = subst (λ (z : ℤ). q ≡ as_of p (nat_abs z)) there c.in_ok-go.ensures.state in
-    let told = subst (λ (z : ℤ). c.go.new.out ≡ c.args.out.now ++ text_of p (changes_between p (as_of p (nat_abs z)))) there c.in_ok-go.ensures.told in
-    sought p q to c.args.out.now c.go.new.out (moved_as_sought p q to moved c.settled.ensures.state) c.settled.ensures.state c.settled.ensures.diary
-    (told ∙ ap (λ (r : Presentation). c.args.out.now ++ text_of p (changes_between p r)) (sym moved))
+    let told = subst (λ (z : ℤ). c.go.new.out ≡ c.args.out.now ++ told_of g.I.ChangeItem.telling p (changes_between p (as_of p (nat_abs z)))) there c.in_ok-go.ensures.told in
+    sought g.I.ChangeItem.telling p q to c.args.out.now c.go.new.out (moved_as_sought p q to moved c.settled.ensures.state) c.settled.ensures.state c.settled.ensures.diary
+    (told ∙ ap (λ (r : Presentation). c.args.out.now ++ told_of g.I.ChangeItem.telling p (changes_between p r)) (sym moved))
 
 from : (g : Over) (c : After-go g) → pos c.args.self.now.now ≤ℤ c.args.to
 from g c =

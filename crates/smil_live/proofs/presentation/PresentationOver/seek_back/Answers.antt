@@ -4,12 +4,13 @@ use Rattle.std.proofs.lemmas.Int.{to_z-of_z}
 use Rattle.std.proofs.lemmas.Result.{IfErr-weaker}
 use Rattle.smil_model.specs.declared.order.Order.TheVariants as order
 use Rattle.smil_model.specs.declared.order.Refusal.TheVariants as refusal
-use Rattle.smil_model.specs.shown.Answers.{Refuses, gone_text}
+use Rattle.smil_model.specs.shown.Answers.{Refuses}
 use Rattle.smil_model.specs.shown.Orders.{IsState, Presentation, changes_between}
+use Rattle.smil_report.specs.Tellings.{gone_told}
 use Rattle.smil_grammar.specs.Formats.{formats}
 use Rattle.smil_tree.proofs.Results.{on_err}
 use Rattle.smil_cells.specs.CellsState.{WhereTold}
-use Rattle.smil_live.specs.Moves.{IsReplayed, IsTooFull, sought_of, text_of}
+use Rattle.smil_live.specs.Moves.{IsReplayed, IsTooFull, sought_of, told_of}
 use Rattle.smil_live.specs.Counted.{IsFree}
 use Rattle.smil_live.specs.Counts.{least_loading, most_number, told_where}
 use Rattle.smil_live.proofs.AgreedCells.{sought_least, sought_most}
@@ -32,21 +33,21 @@ replayed g c = subst (λ (z : ℤ). IsReplayed (sought_of c.args.self.now z) c.i
 
 -- what is told is what differs from the presentation as it was
 told : (g : Over) (c : After-take_over g) → OnOk c.take_over.result
-    (c.take_over.new.out ≡ c.args.out.now ++ gone_text c.args.self.now c.in_ok-cells.cells.presentation ++ text_of c.in_ok-cells.cells.presentation (changes_between c.args.self.now c.in_ok-cells.cells.presentation))
+    (c.take_over.new.out ≡ c.args.out.now ++ gone_told g.I.ChangeItem.telling c.args.self.now c.in_ok-cells.cells.presentation ++ told_of g.I.ChangeItem.telling c.in_ok-cells.cells.presentation (changes_between c.args.self.now c.in_ok-cells.cells.presentation))
 told g c =
     let q = c.in_ok-cells.cells.presentation in
-    subst (λ (p : Presentation). OnOk c.take_over.result (c.take_over.new.out ≡ c.args.out.now ++ gone_text p q ++ text_of q (changes_between p q))) c.made_at.ensures.same c.take_over.ensures.told
+    subst (λ (p : Presentation). OnOk c.take_over.result (c.take_over.new.out ≡ c.args.out.now ++ gone_told g.I.ChangeItem.telling p q ++ told_of g.I.ChangeItem.telling q (changes_between p q))) c.made_at.ensures.same c.take_over.ensures.told
 
 pub returns-clause-ok : goal.returns-clause-ok
 returns-clause-ok g c =
     let p = c.args.self.now in
     let state : IsState (sought_of p c.args.to) = subst (λ (z : ℤ). IsState (sought_of p z)) (to_z-of_z w64 c.args.to c.ranges.to) c.made_at.ensures.state in
-    on_both c.take_over.result (sought_anew p c.take_over.new.self c.in_ok-cells.cells c.args.to c.args.out.now c.take_over.new.out state (replayed g (goal.at.returns-clause-ok g c).After-take_over)) c.take_over.ensures.state (told g (goal.at.returns-clause-ok g c).After-take_over)
+    on_both c.take_over.result (sought_anew g.I.ChangeItem.telling p c.take_over.new.self c.in_ok-cells.cells c.args.to c.args.out.now c.take_over.new.out state (replayed g (goal.at.returns-clause-ok g c).After-take_over)) c.take_over.ensures.state (told g (goal.at.returns-clause-ok g c).After-take_over)
 
 pub returns-clause-appended : goal.returns-clause-appended
 returns-clause-appended g c =
     let q = c.in_ok-cells.cells.presentation in
-    appended_both c.take_over.result c.args.out.now c.take_over.new.out (gone_text c.args.self.now q) (text_of q (changes_between c.args.self.now q)) (told g (goal.at.returns-clause-appended g c).After-take_over)
+    appended_both c.take_over.result c.args.out.now c.take_over.new.out (gone_told g.I.ChangeItem.telling c.args.self.now q) (told_of g.I.ChangeItem.telling q (changes_between c.args.self.now q)) (told g (goal.at.returns-clause-appended g c).After-take_over)
 
 pub returns-clause-refused : goal.returns-clause-refused
 returns-clause-refused g c =
@@ -67,10 +68,10 @@ returns-clause-bounded g c =
     let rise = c.made_at.new.steps - c.args.steps.now in
     record {
       most =
-          sought_most c.take_over.result g.T.Table.counts p c.take_over.new.self c.in_ok-cells.cells c.args.to text rise c.requires.clock c.requires.back (replayed g (goal.at.returns-clause-bounded g c).After-take_over) c.take_over.ensures.state
+          sought_most g.I.ChangeItem.telling c.take_over.result g.T.Table.counts p c.take_over.new.self c.in_ok-cells.cells c.args.to text rise c.requires.clock c.requires.back (replayed g (goal.at.returns-clause-bounded g c).After-take_over) c.take_over.ensures.state
           (returns-clause-ok g c) c.in_ok-cells.ensures.most;
       least =
-          sought_least c.take_over.result g.T.Table.counts p c.take_over.new.self c.in_ok-cells.cells c.args.to text rise c.requires.clock c.requires.back (replayed g (goal.at.returns-clause-bounded g c).After-take_over) c.take_over.ensures.state
+          sought_least g.I.ChangeItem.telling c.take_over.result g.T.Table.counts p c.take_over.new.self c.in_ok-cells.cells c.args.to text rise c.requires.clock c.requires.back (replayed g (goal.at.returns-clause-bounded g c).After-take_over) c.take_over.ensures.state
           (returns-clause-ok g c) (subst (λ (z : ℤ). WhereTold g.T.Table.counts (least_loading (sought_of p z) ≤ rise)) (to_z-of_z w64 c.args.to c.ranges.to) c.in_ok-cells.ensures.least);
       free =
           IfErr-weaker c.take_over.result (λ e. e ≡ refusal.Memory) (λ e. IsFree g.T.Table.counts p (order.Seek c.args.to) e rise)

@@ -15,7 +15,7 @@ take_over-requires-clause-replayed g c = replayed_own (edited_to c.args.self.now
 
 pub returns-clause-ok : goal.returns-clause-ok
 returns-clause-ok g c =
-    edited_on_ok c.take_over.result c.args.self.now c.take_over.new.self c.args.edited c.in_ok-cells.cells c.args.out.now c.take_over.new.out c.in_ok-cells.ensures.ok c.take_over.ensures.state c.take_over.ensures.told
+    edited_on_ok g.I.ChangeItem.telling c.take_over.result c.args.self.now c.take_over.new.self c.args.edited c.in_ok-cells.cells c.args.out.now c.take_over.new.out c.in_ok-cells.ensures.ok c.take_over.ensures.state c.take_over.ensures.told
 
 pub returns-clause-refused : goal.returns-clause-refused
 returns-clause-refused g c =

@@ -1,7 +1,8 @@
 use Rattle.std.proofs.Common.{sym, ◌∙◌, ap, subst}
+use Rattle.smil_report.proofs.Growing.{begins_long, cut_again}
 use Rattle.smil_cells.specs.CellsState.{CellsState}
 use Rattle.smil_shown.specs.ShownViews.{IsPlaying}
-use Rattle.smil_live.proofs.EditedPresentations.{begins_long, cut_again, plays, where_err}
+use Rattle.smil_live.proofs.EditedPresentations.{plays, where_err}
 use Rattle.smil_live.proofs.TouchedViews.{where_not_err}
 use Rattle.smil_live.proofs.presentation.PresentationOver.take_over.Goals as goal
 

@@ -6,7 +6,7 @@ use Rattle.smil_model.specs.shown.Orders.{IsState, Presentation}
 use Rattle.smil_diary.specs.Refusals.{of_book}
 use Rattle.smil_tree.proofs.Results.{on_err}
 use Rattle.smil_cells.specs.CellsState.{with_logged}
-use Rattle.smil_live.specs.Moves.{IsShownAt, IsTooFull, MayMove, changes_by, made, text_of}
+use Rattle.smil_live.specs.Moves.{IsShownAt, IsTooFull, MayMove, changes_by, made, told_of}
 use Rattle.smil_live.specs.declared.moves.Move.{Move}
 use Rattle.smil_live.specs.declared.moves.Move.TheVariants as move
 use Rattle.smil_live.proofs.EditedPresentations.{on_ok_always}
@@ -23,7 +23,7 @@ returns-in-Pass-clause-told g c =
     let to = c.in-Pass.to in
     let fits : SFits w64 to = search rules in
     let is : c.args.step ≡ move.Pass (to_z w64 (of_z w64 to)) = c.in-Pass.is ∙ ap move.Pass (sym (to_z-of_z w64 to fits)) in
-    subst (λ (m : Move). OnOk c.pass_through.result (c.pass_through.new.out ≡ c.args.out.now ++ text_of p (changes_by p m))) (sym is) c.pass_through.ensures.told
+    subst (λ (m : Move). OnOk c.pass_through.result (c.pass_through.new.out ≡ c.args.out.now ++ told_of g.I.ChangeItem.telling p (changes_by p m))) (sym is) c.pass_through.ensures.told
 
 pub returns-in-Settle-clause-told : goal.returns-in-Settle-clause-told
 returns-in-Settle-clause-told g c =
@@ -31,7 +31,7 @@ returns-in-Settle-clause-told g c =
     let to = c.in-Settle.to in
     let fits : SFits w64 to = search rules in
     let is : c.args.step ≡ move.Settle (to_z w64 (of_z w64 to)) = c.in-Settle.is ∙ ap move.Settle (sym (to_z-of_z w64 to fits)) in
-    subst (λ (m : Move). OnOk c.settle_once.result (c.settle_once.new.out ≡ c.args.out.now ++ text_of p (changes_by p m))) (sym is) c.settle_once.ensures.told
+    subst (λ (m : Move). OnOk c.settle_once.result (c.settle_once.new.out ≡ c.args.out.now ++ told_of g.I.ChangeItem.telling p (changes_by p m))) (sym is) c.settle_once.ensures.told
 
 pub hear-requires-clause-settled : goal.hear-requires-clause-settled
 hear-requires-clause-settled g c = λ sound. nothing_before c.args.self.now.cells c.requires.shown.settled
@@ -56,8 +56,8 @@ returns-in_ok-hear-in-Hear-clause-ok g c =
 pub returns-in_ok-hear-in-Hear-clause-told : goal.returns-in_ok-hear-in-Hear-clause-told
 returns-in_ok-hear-in-Hear-clause-told g c =
     let p = c.args.self.now.cells.presentation in
-    subst (λ (m : Move). OnOk c.put_touched.result (c.put_touched.new.out ≡ c.args.out.now ++ text_of p (changes_by p m))) (sym c.in-Hear.is)
-    (told_behind c.put_touched.result c.args.self.now.cells c.hear.new.self (with_logged p c.in-Hear.entry) c.args.self.now.seen.views c.args.out.now c.put_touched.new.out c.in_ok-hear-in-Hear.ensures.state refl
+    subst (λ (m : Move). OnOk c.put_touched.result (c.put_touched.new.out ≡ c.args.out.now ++ told_of g.I.ChangeItem.telling p (changes_by p m))) (sym c.in-Hear.is)
+    (told_behind g.I.ChangeItem.telling c.put_touched.result c.args.self.now.cells c.hear.new.self (with_logged p c.in-Hear.entry) c.args.self.now.seen.views c.args.out.now c.put_touched.new.out c.in_ok-hear-in-Hear.ensures.state refl
     c.requires.shown.views_are c.requires.shown.settled c.in_ok-hear-in-Hear.ensures.settled c.put_touched.ensures.told)
 
 pub returns-in_ok-hear-in-Hear-clause-most : goal.returns-in_ok-hear-in-Hear-clause-most

@@ -5,8 +5,8 @@ use Rattle.std.proofs.lemmas.Result.{on_ok_weaker}
 use Rattle.smil_model.specs.declared.times.TheConstants.{HORIZON}
 use Rattle.smil_model.specs.shown.Orders.{changes_between, changes_through, as_of}
 use Rattle.smil_tree.proofs.Results.{on_err}
-use Rattle.smil_model.proofs.Growing.{begins_by, begins_itself}
-use Rattle.smil_live.specs.Moves.{IsShownAt, IsTooFull, text_of}
+use Rattle.smil_report.proofs.Growing.{begins_by, begins_itself}
+use Rattle.smil_live.specs.Moves.{IsShownAt, IsTooFull, told_of}
 use Rattle.smil_live.proofs.CellCounts.{IsCounted, counted_first, counted_last, counted_then}
 use Rattle.smil_live.proofs.Onward.{arrives, comes_nearer, due_from, passes_on, sets_out, too_full_then}
 use Rattle.smil_live.proofs.Replays.{fits}
@@ -21,7 +21,7 @@ pub loop-due-init : goal.loop-due-init
 loop-due-init g c =
     let s = c.args.self.now.cells in
     let whole = to_z-of_z w64 c.args.to c.ranges.to in (
-      sets_out s c.args.self.now.seen c.args.out.now (to_z w64 (of_z w64 c.args.to)) c.requires.shown (subst (λ (v : ℤ). pos s.presentation.now ≤ℤ v) (sym whole) c.requires.may.0),
+      sets_out g.I.ChangeItem.telling s c.args.self.now.seen c.args.out.now (to_z w64 (of_z w64 c.args.to)) c.requires.shown (subst (λ (v : ℤ). pos s.presentation.now ≤ℤ v) (sym whole) c.requires.may.0),
       refl,
       subst (λ (v : ℤ). v ≤ℤ HORIZON) (sym whole) c.requires.may.1,
       refl,
@@ -58,11 +58,11 @@ returns-in_err-settle_once-clause-refused g c =
 
 -- the standing at that moment, and what is told there
 there : (g : Over) (c : In_ok-settle_once g) → to_z w64 (of_z w64 c.in-Some.due) ≡ c.in-Some.due → IsShownAt (as_of c.loop-due.self.cells.presentation (nat_abs c.in-Some.due)) c.settle_once.new.self.cells c.settle_once.new.self.seen
-    × (c.settle_once.new.out ≡ c.loop-due.out ++ text_of c.loop-due.self.cells.presentation (changes_between c.loop-due.self.cells.presentation (as_of c.loop-due.self.cells.presentation (nat_abs c.in-Some.due))))
+    × (c.settle_once.new.out ≡ c.loop-due.out ++ told_of g.I.ChangeItem.telling c.loop-due.self.cells.presentation (changes_between c.loop-due.self.cells.presentation (as_of c.loop-due.self.cells.presentation (nat_abs c.in-Some.due))))
 there g c whole =
     let s = c.loop-due.self.cells in (
       subst (λ (x : ℤ). IsShownAt (as_of s.presentation (nat_abs x)) c.settle_once.new.self.cells c.settle_once.new.self.seen) whole c.in_ok-settle_once.ensures.ok,
-      subst (λ (x : ℤ). c.settle_once.new.out ≡ c.loop-due.out ++ text_of s.presentation (changes_between s.presentation (as_of s.presentation (nat_abs x)))) whole c.in_ok-settle_once.ensures.told,
+      subst (λ (x : ℤ). c.settle_once.new.out ≡ c.loop-due.out ++ told_of g.I.ChangeItem.telling s.presentation (changes_between s.presentation (as_of s.presentation (nat_abs x)))) whole c.in_ok-settle_once.ensures.told,
     )
 
 pub loop-due-smaller : goal.loop-due-smaller
@@ -93,8 +93,8 @@ returns-clause-told g c =
     let p = c.args.self.now.cells.presentation in
     let to = to_z w64 (of_z w64 c.args.to) in
     on_ok_weaker c.settle_once-2.result
-    (λ (q : c.settle_once-2.new.out ≡ c.loop-due.out ++ text_of c.loop-due.self.cells.presentation (changes_between c.loop-due.self.cells.presentation (as_of c.loop-due.self.cells.presentation (nat_abs to)))).
-    subst (λ (x : ℤ). c.settle_once-2.new.out ≡ c.args.out.now ++ text_of p (changes_through p (nat_abs x - p.now))) (to_z-of_z w64 c.args.to c.ranges.to)
+    (λ (q : c.settle_once-2.new.out ≡ c.loop-due.out ++ told_of g.I.ChangeItem.telling c.loop-due.self.cells.presentation (changes_between c.loop-due.self.cells.presentation (as_of c.loop-due.self.cells.presentation (nat_abs to)))).
+    subst (λ (x : ℤ). c.settle_once-2.new.out ≡ c.args.out.now ++ told_of g.I.ChangeItem.telling p (changes_through p (nat_abs x - p.now))) (to_z-of_z w64 c.args.to c.ranges.to)
     (arrives v.0 c.in_default.ensures.none q))
     c.settle_once-2.ensures.told
 

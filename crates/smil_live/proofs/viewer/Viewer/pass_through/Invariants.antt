@@ -1,14 +1,14 @@
 use Rattle.std.proofs.Common.{◌≡◌, ◌-◌}
 use Rattle.std.specs.Prelude.{nat_abs, ◌≤ℤ◌}
 use Rattle.smil_model.specs.declared.times.TheConstants.{HORIZON}
-use Rattle.smil_model.specs.document.Words.{Begins}
+use Rattle.smil_report.specs.Tellings.{Begins}
 use Rattle.smil_live.proofs.CellCounts.{IsCounted}
 use Rattle.smil_live.proofs.Onward.{IsPassing}
 use Rattle.smil_live.proofs.viewer.Viewer.pass_through.Given as goal
 
 abbrev pub invariant-loop-due : goal.invariant-loop-due
 invariant-loop-due g l =
-    IsPassing l.initial.self.cells.presentation l.initial.out l.to l.self.cells l.self.seen l.out
+    IsPassing g.I.ChangeItem.telling l.initial.self.cells.presentation l.initial.out l.to l.self.cells l.self.seen l.out
     × (l.to ≡ l.initial.to)
     × (l.to ≤ℤ HORIZON)
     × (l.self.cells.marked ≡ l.initial.self.cells.marked)

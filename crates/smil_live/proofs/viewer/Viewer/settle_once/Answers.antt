@@ -31,7 +31,7 @@ pub returns-clause-told : goal.returns-clause-told
 returns-clause-told g c =
     let p = c.args.self.now.cells.presentation in
     let is = c.in_ok-settle.ensures.state ∙ ap (λ (z : ℤ). as_of p (nat_abs z)) (to_z-of_z w64 c.args.to c.ranges.to) in
-    told_behind c.put_touched.result c.args.self.now.cells c.settle.new.self (as_of p (nat_abs c.args.to)) c.args.self.now.seen.views c.args.out.now c.put_touched.new.out is refl c.requires.shown.views_are
+    told_behind g.I.ChangeItem.telling c.put_touched.result c.args.self.now.cells c.settle.new.self (as_of p (nat_abs c.args.to)) c.args.self.now.seen.views c.args.out.now c.put_touched.new.out is refl c.requires.shown.views_are
     c.requires.shown.settled c.in_ok-settle.ensures.settled c.put_touched.ensures.told
 
 pub returns-clause-goes_on : goal.returns-clause-goes_on

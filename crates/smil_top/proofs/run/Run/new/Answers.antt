@@ -13,7 +13,7 @@ returns-clause-running c = record {
     checks_is = ap (λ (s : Session). s.checks) c.in_ok-new.ensures;
     transcript = of_nothing;
     keeps = subst (λ (s : Session). Keeps s empty_session) (sym c.in_ok-new.ensures) (record { held = record { session_is = refl; apart = tt }; wanted = refl });
-    counted = subst (λ (k : Counts). AreCounted k [] untold) (sym c.new-3.ensures) (record { orders_are = refl; refused_is = refl; lines_are = refl; memory_is = refl });
+    counted = subst (λ (k : Counts). AreCounted k [] untold) (sym c.new-3.ensures) (record { orders_are = refl; refused_is = refl; lines_are = λ below. refl; memory_is = refl });
   };
   load = tt;
 }
