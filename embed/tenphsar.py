@@ -8,43 +8,145 @@ Writes the transcript of a session, as `smilplay run` does. As a module:
     with Session("./libtenphsar.so") as session:
         session.order("load show", "par", '  img id="a" dur="3s"', "%%")
         print(session.order("show advance 1s"), session.moment("show"))
+        for change in session.advance("show", 2000):
+            print(change.moment, change.element, change.state)
 """
 
 import ctypes
 import re
 import sys
+from typing import NamedTuple
 
 REFUSAL = re.compile(r"! (?P<line>[0-9]+) (?P<word>[a-z-]+)(?: (?P<column>[0-9]+))?\n")
 ACCEPTED = 1
 REFUSED = 2
 OUT_OF_MEMORY = -1
+BAD_ARGUMENT = -3
+OPEN_LOAD = -4
+CHANGES_AT_ONCE = 64
+
+# The greatest moment or length, in milliseconds, the greatest number that names an element, and the greatest key.
+HORIZON = 10**12
+LAST_SERIAL = 2**32 - 1
+LAST_KEY = 255
+
+STATES = "idle", "waiting", "active", "paused", "deferred", "frozen", "done", "gone"
+SHOWINGS = "nothing", "playing", "standing", "frozen"
+TIMES = "-", "at", "indefinite", "unresolved", "?"
+WORDS = {
+    4: "bad-outline", 6: "too-deep", 7: "bad-place", 8: "unknown-attribute", 9: "unsupported", 10: "bad-value",
+    11: "too-many-items", 12: "duplicate-id", 13: "too-many-elements", 14: "too-many-references",
+    15: "no-presentation", 18: "no-element", 19: "root", 20: "not-continuous", 21: "log-full", 22: "beyond-horizon",
+    23: "diary-full", 24: "memory",
+}
 
 
 class Refused(Exception):
     """An order that can't be carried out; nothing has changed.
 
     `line` counts the session's lines from 1, `word` is one of docs/REFUSALS.md, and `column` counts the bytes of the
-    line at fault from 1, None where the word has no column.
+    line at fault from 1, None where the word has no column. An order that was given by a call has neither.
     """
 
-    def __init__(self, answer):
-        super().__init__(answer.rstrip("\n"))
+    def __init__(self, word, line=None, column=None):
+        super().__init__(" ".join(str(part) for part in ("!", line, word, column) if part is not None))
+        self.word, self.line, self.column = word, line, column
+
+    @classmethod
+    def of_answer(cls, answer):
+        """The refusal of an answer's text."""
         found = REFUSAL.fullmatch(answer)
-        self.line, self.word = int(found["line"]), found["word"]
-        self.column = int(found["column"]) if found["column"] else None
+        return cls(found["word"], int(found["line"]), int(found["column"]) if found["column"] else None)
+
+
+class Change(NamedTuple):
+    """What an order changed of an element, at a moment in milliseconds of document time.
+
+    `element` is its serial, and `state` the word of its state; of one that is "gone" nothing else is told. `begin` and
+    `end` are moments, or one of the words "-", "indefinite", "unresolved" and "?". `iteration` counts from 0, and
+    `finished` the intervals that have finished.
+    """
+
+    moment: int
+    element: int
+    state: str
+    begin: int | str
+    end: int | str
+    iteration: int
+    finished: int
+
+
+class OnScreen(NamedTuple):
+    """What is on the screen of an element, by its serial.
+
+    `showing` is "playing", "standing" where it or an element above it is paused, or "frozen". `position` is where its
+    media is, in milliseconds from the begin of the present iteration, which counts from 0.
+    """
+
+    element: int
+    showing: str
+    position: int
+    iteration: int
+
+
+class ScreenRecord(ctypes.Structure):
+    """The same as C has it."""
+
+    _fields_ = [
+        ("position", ctypes.c_int64), ("element", ctypes.c_uint32), ("iteration", ctypes.c_uint32),
+        ("showing", ctypes.c_uint32), ("reserved", ctypes.c_uint32),
+    ]
+
+
+class ChangeRecord(ctypes.Structure):
+    """A record as C has it."""
+
+    _fields_ = [
+        ("moment", ctypes.c_int64), ("begin", ctypes.c_int64), ("end", ctypes.c_int64),
+        ("element", ctypes.c_uint32), ("iteration", ctypes.c_uint32), ("finished", ctypes.c_uint32),
+        ("state", ctypes.c_uint8), ("begin_is", ctypes.c_uint8), ("end_is", ctypes.c_uint8),
+        ("reserved", ctypes.c_uint8),
+    ]
+
+    def change(self):
+        """What it says."""
+        begin = self.begin if TIMES[self.begin_is] == "at" else TIMES[self.begin_is]
+        end = self.end if TIMES[self.end_is] == "at" else TIMES[self.end_is]
+        return Change(self.moment, self.element, STATES[self.state], begin, end, self.iteration, self.finished)
+
+
+def within(number, most):
+    """The number, if it is from 0 to the greatest; else raises ValueError."""
+    if not 0 <= number <= most:
+        raise ValueError("no line can say this")
+    return number
 
 
 def load_library(path):
     """The shared library at a path, with the types of its calls."""
     library = ctypes.CDLL(path)
     handle, text, size = ctypes.POINTER(ctypes.c_void_p), ctypes.c_char_p, ctypes.c_size_t
+    code, time, serial = ctypes.c_int32, ctypes.c_int64, ctypes.c_uint32
     for name, result, *others in (
-        ("open", ctypes.c_int32),
-        ("line", ctypes.c_int32, text, size),
+        ("open", code),
+        ("line", code, text, size),
         ("size", size),
         ("answer", size, size, text, size),
-        ("moment", ctypes.c_int64, text, size),
-        ("next", ctypes.c_int64, text, size),
+        ("moment", time, text, size),
+        ("next", time, text, size),
+        ("advance", code, text, size, time),
+        ("seek", code, text, size, time),
+        ("event", code, text, size, serial, text, size),
+        ("media", code, text, size, serial, time),
+        ("key", code, text, size, ctypes.c_uint8),
+        ("set", code, text, size, serial, text, size, text, size),
+        ("unset", code, text, size, serial, text, size),
+        ("insert", code, text, size, serial, serial, text, size),
+        ("remove", code, text, size, serial),
+        ("find", time, text, size, text, size),
+        ("screen", code, text, size, size, ctypes.POINTER(ScreenRecord)),
+        ("count", size),
+        ("changes", size, size, ctypes.POINTER(ChangeRecord), size),
         ("close", None),
     ):
         call = getattr(library, f"tenphsar_{name}")
@@ -87,8 +189,103 @@ class Session:
         for line in lines:
             code, answer = self.line(line.encode())
             if code == REFUSED:
-                raise Refused(answer.decode())
+                raise Refused.of_answer(answer.decode())
         return answer.decode()
+
+    def advance(self, name, by):
+        """Moves a presentation on by a length, in milliseconds, and gives what changed, as the list of its changes.
+
+        Raises Refused where the order is refused, MemoryError where memory ran out, and ValueError where an argument is
+        out of range, a load that was begun by lines hasn't ended, or the session is closed or takes no more lines. Then
+        nothing has changed.
+        """
+        return self._change("advance", name, within(by, HORIZON))
+
+    def seek(self, name, to):
+        """Moves a presentation to a moment of document time, in milliseconds; backward, later events, lengths and keys
+        are removed. Gives and raises what `advance` does."""
+        return self._change("seek", name, within(to, HORIZON))
+
+    def event(self, name, element, event):
+        """Tells of an event on an element, by its serial, at the present moment. Gives and raises what `advance`
+        does."""
+        said = event.encode()
+        return self._change("event", name, within(element, LAST_SERIAL), said, len(said))
+
+    def media(self, name, element, length):
+        """Tells the length of an element's media, in milliseconds. Gives and raises what `advance` does."""
+        return self._change("media", name, within(element, LAST_SERIAL), within(length, HORIZON))
+
+    def key(self, name, key):
+        """Tells of a press of an access key, one character. Gives and raises what `advance` does."""
+        return self._change("key", name, within(ord(key), LAST_KEY))
+
+    def set(self, name, element, attribute, value):
+        """Gives an attribute of an element, by its serial, a value. Gives and raises what `advance` does."""
+        word, text = attribute.encode(), value.encode()
+        return self._change("set", name, within(element, LAST_SERIAL), word, len(word), text, len(text))
+
+    def unset(self, name, element, attribute):
+        """Takes an attribute of an element, by its serial, away. Gives and raises what `advance` does."""
+        word = attribute.encode()
+        return self._change("unset", name, within(element, LAST_SERIAL), word, len(word))
+
+    def insert(self, name, element, place, node):
+        """Inserts a node, a line of an outline without its spaces in front, as the child of an element, by its serial,
+        at a place from 1. Gives and raises what `advance` does."""
+        text = node.encode()
+        return self._change("insert", name, within(element, LAST_SERIAL), within(place, LAST_SERIAL), text, len(text))
+
+    def remove(self, name, element):
+        """Removes an element, by its serial, with all below it. Gives and raises what `advance` does."""
+        return self._change("remove", name, within(element, LAST_SERIAL))
+
+    def find(self, name, node):
+        """The serial of the node with an id, in a presentation; None where there is no such node or no such
+        presentation. Raises MemoryError where memory ran out, and ValueError where the session is closed.
+        """
+        self._check()
+        called, named = name.encode(), node.encode()
+        serial = self._library.tenphsar_find(self._handle, called, len(called), named, len(named))
+        if serial < 0:
+            raise MemoryError("no memory for the call")
+        return serial or None
+
+    def screen(self, name):
+        """What is on the screen of a presentation at its present moment, in document order: each element that is
+        active or frozen. It is empty where there is no such presentation. Raises ValueError where the session is
+        closed.
+        """
+        self._check()
+        called, record = name.encode(), ScreenRecord()
+        found, index = [], 0
+        while self._library.tenphsar_screen(self._handle, called, len(called), index, record):
+            if record.showing:
+                found.append(OnScreen(record.element, SHOWINGS[record.showing], record.position, record.iteration))
+            index += 1
+        return found
+
+    def _change(self, order, name, *given):
+        """Gives an order by its call, and gives the changes that its records tell."""
+        self._check()
+        called = name.encode()
+        code = getattr(self._library, f"tenphsar_{order}")(self._handle, called, len(called), *given)
+        if WORDS.get(code) == "memory":
+            raise MemoryError("no memory for the order")
+        if code > 0:
+            raise Refused(WORDS[code])
+        if code < 0:
+            raise ValueError({BAD_ARGUMENT: "no line can say this", OPEN_LOAD: "a load hasn't ended"}.get(
+                code, "the session takes no more lines"))
+        return list(self._changes())
+
+    def _changes(self):
+        """The changes of the last order, some at a time."""
+        records = (ChangeRecord * CHANGES_AT_ONCE)()
+        first = 0
+        while copied := self._library.tenphsar_changes(self._handle, first, records, CHANGES_AT_ONCE):
+            yield from (record.change() for record in records[:copied])
+            first += copied
 
     def moment(self, name):
         """The present moment of the presentation of a name, in milliseconds; None where there is none.

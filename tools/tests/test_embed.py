@@ -20,7 +20,7 @@ def lacking():
     if shutil.which("cc") is None:
         return "there is no C compiler"
     if not ARCHIVE.exists():
-        return f"there is no {ARCHIVE}, which `rt lib` makes in crates/tenphsar"
+        return f"there is no {ARCHIVE}, which embed/build.py makes"
     return None
 
 
@@ -62,6 +62,37 @@ class Embedded(unittest.TestCase):
 
     def test_python_plays_each_example(self):
         self.plays(sys.executable, "-B", EMBED / "tenphsar.py", made()[1])
+
+    def test_calls_play_each_example(self):
+        run = subprocess.run([sys.executable, "-B", TOP / "tools" / "tests" / "by_calls.py", made()[1],
+                              *(session for session, _ in self.sessions())],
+                             cwd=EMBED, capture_output=True, text=True, check=False)
+        self.assertEqual((run.returncode, run.stderr), (0, ""), run.stdout)
+
+    def test_the_screen(self):
+        text = "\n".join((
+            "from tenphsar import Session",
+            "def tell(session):",
+            "    print(session.moment('d'), *(' '.join(map(str, one)) for one in session.screen('d')), sep='; ')",
+            f"with Session({str(made()[1])!r}) as session:",
+            "    session.order('load d', 'par dur=\"30s\"', '  excl dur=\"20s\"', '    priorityClass peers=\"pause\"',",
+            "                  '      par begin=\"0s\" dur=\"12s\"',"
+            "                  '        video id=\"v\" dur=\"5s\" repeatCount=\"2\"',",
+            "                  '      img begin=\"7s\" dur=\"3s\"', '  text dur=\"2s\" fill=\"freeze\"', '%%')",
+            "    for moment in (0, 1500, 6000, 8000, 11000, 16000):",
+            "        session.seek('d', moment)",
+            "        tell(session)",
+            "    print(session.screen('e'))",
+            "    print(*(session.find(name, node) for name, node in (('d', 'v'), ('d', 'w'), ('e', 'v'))))"))
+        run = subprocess.run([sys.executable, "-B", "-c", text], cwd=EMBED, capture_output=True, text=True, check=False)
+        self.assertEqual((run.stderr, run.stdout.splitlines()), ("", [
+            "0; 1 playing 0 0; 2 playing 0 0; 4 playing 0 0; 5 playing 0 0; 7 playing 0 0",
+            "1500; 1 playing 1500 0; 2 playing 1500 0; 4 playing 1500 0; 5 playing 1500 0; 7 playing 1500 0",
+            "6000; 1 playing 6000 0; 2 playing 6000 0; 4 playing 6000 0; 5 playing 1000 1; 7 frozen 2000 0",
+            "8000; 1 playing 8000 0; 2 playing 8000 0; 4 standing 7000 0; 5 standing 2000 1; 6 playing 1000 0; "
+            "7 frozen 2000 0",
+            "11000; 1 playing 11000 0; 2 playing 11000 0; 4 playing 8000 0; 5 playing 3000 1; 7 frozen 2000 0",
+            "16000; 1 playing 16000 0; 2 playing 16000 0; 7 frozen 2000 0", "[]", "5 None None"]))
 
     def test_usage(self):
         self.assertIn("usage: tenphsar.py", call(EMBED / "tenphsar.py")[2])

@@ -1,7 +1,10 @@
 -- A text in two pieces that is copied from a byte on.
-use Rattle.std.proofs.Common.{◌≡◌, ℕ, ◌+◌, ◌-◌, ◌<◌, ◌≤◌, min, List, [], ◌++◌, length, take, drop, slice_range, ap, sym, subst, ◌∙◌, arith, append_assoc, inl, inr}
+use Rattle.std.proofs.Common.{◌≡◌, ℕ, ◌+◌, ◌-◌, ◌<◌, ◌≤◌, min, List, [], ◌∷◌, ◌++◌, length, take, drop, get_or, slice_range, ap, sym, subst, ◌∙◌, arith, append_assoc, inl, inr}
 use Rattle.std.proofs.lemmas.Bool.{cases_lt}
-use Rattle.std.proofs.lemmas.List.{append-nil, drop-append-le, drop_all, length-append, length-drop, length-take-le, take-append-drop, take-append-le, take_all}
+use Rattle.std.specs.Prelude.{map, set}
+use Rattle.std.proofs.Math.ListN.{get_or-map}
+use Rattle.std.proofs.lemmas.Grind.{drop_more_same}
+use Rattle.std.proofs.lemmas.List.{append-nil, drop-append-le, drop-map, drop-set-lt, length-map, length-set, take_more, take_more_set, drop_all, length-append, length-drop, length-take-le, take-append-drop, take-append-le, take_all}
 use Rattle.std.proofs.Math.Seq.{drop-append-add, drop-append_seam, take-append-add, take-append_seam}
 use Rattle.tenphsar.specs.Calls.{Copies}
 
@@ -13,7 +16,7 @@ drop-more n m text within =
     ∙ drop-append-add (take n text) (drop n text) m
 
 -- no more is dropped than there is
-drop-min : (n : ℕ) (text : List ℕ) → drop n text ≡ drop (min n (length text)) text
+drop-min : {A : Type 0} (n : ℕ) (text : List A) → drop n text ≡ drop (min n (length text)) text
 drop-min n text = elim (cases_lt (length text) n) [
   | inl past ↦ drop_all n text (omega (arith, past)) ∙ sym (drop_all (min n (length text)) text (omega (arith, past)))
   | inr within ↦ ap (λ k. drop k text) (omega (arith, within))
@@ -85,7 +88,7 @@ module _ (first last old between tail new : List ℕ) (n m : ℕ) (one : Copies 
   copies-two = elim (cases_lt (length old) (length first)) [ inl less ↦ part less | inr enough ↦ whole enough ]
 
 -- what stands from a place to the end
-to-end : (k : ℕ) (text : List ℕ) → slice_range text k (length text) ≡ drop k text
+to-end : {A : Type 0} (k : ℕ) (text : List A) → slice_range text k (length text) ≡ drop k text
 to-end k text = take_all (length text - k) (drop k text) (omega (arith, length-drop k text))
 
 -- the two pieces from a byte on are copied one behind the other
@@ -105,3 +108,34 @@ module _ (first last old between tail : List ℕ) (from k behind n m : ℕ) (k_i
       (subst (λ o. Copies m (drop behind last) o tail) (to-end n between)
       (subst (λ t. Copies m t (slice_range between n (length between)) tail) (to-end behind last) two))
       (ap (λ zs. take n between ++ (tail ++ zs)) none ∙ ap (λ zs. take n between ++ zs) (append-nil tail)))
+
+-- one more element is copied by a function
+pub copied-more : {A B : Type 0} (f : A → B) (xs : List A) (out old : List B) (i : ℕ) (d : A) (y : B) → y ≡ f (get_or xs i d) → i < length xs → i < length out →
+    take i out ≡ take i (map f xs) → drop i out ≡ drop i old → length out ≡ length old →
+    (take (i + 1) (set out i y) ≡ take (i + 1) (map f xs)) × (drop (i + 1) (set out i y) ≡ drop (i + 1) old) × (length (set out i y) ≡ length old)
+copied-more f xs out old i d y is here room front back same = (
+  take_more_set out i y room
+      ∙ ap (λ zs. zs ++ y ∷ []) front
+      ∙ ap (λ z. take i (map f xs) ++ z ∷ []) (is ∙ sym (get_or-map f xs i d))
+      ∙ sym (take_more (map f xs) i (f d) (omega (arith, here, length-map xs f))),
+  drop-set-lt (i + 1) out i y (omega arith) ∙ drop_more_same out old i back,
+  length-set out i y ∙ same,
+)
+
+-- what stands behind an element is copied by a function
+pub copies-behind : {A B : Type 0} (f : A → B) (xs : List A) (old new : List B) (from k n : ℕ) → k ≡ min from (length xs) →
+    Copies n (map f (slice_range xs k (length xs))) old new → Copies n (drop from (map f xs)) old new
+copies-behind f xs old new from k n k_is copies =
+    subst (λ zs. Copies n zs old new)
+    (ap (map f) (to-end k xs)
+    ∙ sym (drop-map f k xs)
+    ∙ ap (λ j. drop j (map f xs)) (k_is ∙ ap (min from) (sym (length-map xs f)))
+    ∙ sym (drop-min from (map f xs)))
+    copies
+
+-- all that there is room for is copied
+pub copies-all : {A : Type 0} (given old out : List A) (n i : ℕ) → n ≡ min (length given) (length old) → i ≡ n → take i out ≡ take i given → drop i out ≡ drop i old → Copies n given old out
+copies-all given old out n i n_is at front back = record {
+  as_fits = n_is;
+  new_is = sym (take-append-drop i out) ∙ ap (λ zs. zs ++ drop i out) front ∙ ap (λ zs. take i given ++ zs) back ∙ ap (λ k. take k given ++ drop k old) at;
+}

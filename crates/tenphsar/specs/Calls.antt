@@ -39,10 +39,10 @@ TakesIn code line before after =
     → IsHeld before cut told
     → Takes code line before cut told after
 
--- as much of a text is copied as there is room for, and the bytes behind it stay
-pub record Copies (copied : ℕ) (text old new : List ℕ) : Type 0 where
-  pub as_fits : copied ≡ min (length text) (length old)
-  pub new_is : new ≡ take copied text ++ drop copied old
+-- as much of a list is copied as there is room for, and what stands behind it stays
+pub record Copies {A : Type 0} (copied : ℕ) (given old new : List A) : Type 0 where
+  pub as_fits : copied ≡ min (length given) (length old)
+  pub new_is : new ≡ take copied given ++ drop copied old
 
 -- the moment of the presentation of this name, -1 where there is none
 abbrev pub TellsMoment : ℤ → List ℕ → Held → Type 0

@@ -1,13 +1,21 @@
 //! What each export does with the session of its handle.
 
-ghost use Rattle.std.specs.Prelude.{◌≡◌, ◌<◌, ◌++◌, [], drop, length, IfSome};
+ghost use Rattle.std.specs.Prelude.{◌≡◌, ◌<◌, ◌++◌, [], drop, length, map, false, Option, IfSome};
 ghost use Rattle.smil_top.specs.Cut.{cut_of};
 ghost use Rattle.smil_top.specs.Held.{IsHeld, answer_of};
 ghost use Rattle.smil_top.specs.Transcript.{untold};
+ghost use Rattle.smil_model.specs.declared.order.Order.{Order as AnyOrder};
+ghost use Rattle.smil_model.specs.shown.Answers.{IsGiven};
+ghost use Rattle.smil_report.specs.Tellings.{is_telling};
 ghost use Rattle.tenphsar.specs.Calls.{Copies, TakesIn, TellsMoment, TellsNext, code_of};
+ghost use Rattle.tenphsar.specs.Orders.{Calls, IsAnswered, IsFit, MakesOrder, code_given};
+ghost use Rattle.tenphsar.specs.Records.{record_of};
 
+use super::orders::NoOrder;
+use super::records::{self, ChangeRecord};
 use smil_interval::Steps;
-use smil_top::Held;
+use smil_model::Order;
+use smil_top::{CallRefusal, Held};
 use std::alloc::Global;
 use std::sync::ledger::{Blank, Ledger};
 
@@ -22,6 +30,14 @@ const REFUSED: i32 = 2;
 pub const NO_MEMORY: i32 = -1;
 
 const TOO_MANY_LINES: i32 = -2;
+
+// Why an order that is given by a call isn't taken in: no line could say it, or a load is open. A
+// refused order answers the number of its refusal.
+const BAD_ARGUMENT: i32 = -3;
+
+const OPEN_LOAD: i32 = -4;
+
+const OUT_OF_MEMORY: i32 = 24;
 
 // The moment where there is none.
 const NO_MOMENT: i64 = -1;
@@ -123,4 +139,68 @@ pub fn next_due(held: &Held, name: &[u8]) -> i64
     ensures { TellsNext result name.now held.now }
 {
     held.next_due(name).unwrap_or(NO_MOMENT)
+}
+
+// Gives an order to the presentation of this name, and gives its code.
+fn give<L: Ledger>(held: &mut Held, name: &[u8], order: &Order, blank: Blank) -> i32
+    requires given { IsGiven order.now }
+    requires changes { is_telling order.now ≡ false }
+    requires name { blank.name ≡ L.name }
+    requires parts { blank.parts ≡ L.parts }
+    requires backed { 0 < blank.parts }
+    ensures { IsAnswered result name.now order.now held.old held.new }
+{
+    let mut steps = Steps::<L>::new(blank);
+    let answered = held.change(name, order, &mut steps);
+    code_of_order(&answered)
+}
+
+// The code of an order that was given.
+fn code_of_order(answered: &Result<i64, CallRefusal>) -> i32
+    ensures { result ≡ code_given answered.now }
+{
+    match answered {
+        Ok(_) => DONE,
+        Err(CallRefusal::Refused(refusal)) => i32::from(refusal.number()),
+        Err(CallRefusal::TooManyCalls) => TOO_MANY_LINES,
+        Err(CallRefusal::OpenLoad) => OPEN_LOAD,
+    }
+}
+
+/// Gives the order that was made of the arguments of a call, if there is one, to the presentation
+/// of this name, and gives the call's code.
+pub fn change<L: Ledger>(
+    held: &mut Held,
+    name: &[u8],
+    order: Result<Order, NoOrder>,
+    blank: Blank,
+) -> i32
+    requires name { blank.name ≡ L.name }
+    requires parts { blank.parts ≡ L.parts }
+    requires backed { 0 < blank.parts }
+    requires fit { IsFit order }
+    ensures { (wanted : Option AnyOrder) → MakesOrder order wanted
+        → Calls result name.now wanted held.old held.new }
+{
+    match order {
+        Ok(order) => give::<L>(held, name, &order, blank),
+        Err(NoOrder::BadArgument) => BAD_ARGUMENT,
+        Err(NoOrder::Memory) => OUT_OF_MEMORY,
+    }
+}
+
+/// Copies the records of the last call from one on, as many as there is room for, and gives how
+/// many they are.
+pub fn copy_changes(held: &Held, from: usize, out: &mut [ChangeRecord]) -> usize
+    ensures { Copies result (drop from (map record_of held.now.changes)) out.old out.new }
+{
+    let changes = held.changes();
+    records::copy(&changes[from.min(changes.len())..], out)
+}
+
+/// How many records the last call left.
+pub fn count_changes(held: &Held) -> usize
+    ensures { result ≡ length held.now.changes }
+{
+    held.changes().len()
 }
