@@ -3,9 +3,9 @@
 
 usage: build.py
 
-Makes crates/tenphsar/out/libtenphsar.a over the proved libraries that `rt ci` left in crates/*/out, in minutes: the crate
-tenphsar is proved once more, and nothing is made where it is not. Beside it stands libtenphsar.bc, what LLVM compiled,
-for embed/wasm/module.py. Ends with 1 and a line where a library is missing or older than its sources.
+Makes crates/tenphsar/out/libtenphsar.a over the proved libraries that `rt ci` left in crates/*/out, in minutes: the
+crate tenphsar is proved once more, and nothing is made where it is not. Beside it stands libtenphsar.bc, what LLVM
+compiled, for embed/wasm/module.py. Ends with 1 and a line where a library is missing or older than its sources.
 """
 
 import os

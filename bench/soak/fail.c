@@ -1,8 +1,9 @@
 /* Plays sessions with each allocation failing in turn, and compares: fail EVERY SESSION..
  *
- * Each session is played from nothing, once with all memory and then with the first, the EVERYth, the 2 EVERYth .. call for
- * memory failing. An order that is answered `memory` is given once more; all answers must be those of the first time, but for
- * the numbers of lines, and at the end all memory must be given back. Ends with 1 and a line at the first difference. */
+ * Each session is played from nothing, once with all memory and then with the first, the EVERYth, the 2 EVERYth ..
+ * call for memory failing. An order that is answered `memory` is given once more; all answers must be those of the
+ * first time, but for the numbers of lines, and at the end all memory must be given back. Ends with 1 and a line at
+ * the first difference. */
 #include "heap.h"
 #include "tenphsar.h"
 #include <stdio.h>

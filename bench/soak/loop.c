@@ -1,9 +1,9 @@
 /* Plays a loop of pictures, as a screen in a shop does: loop HOURS SECONDS.
  *
- * HOURS of document time in steps of a tenth of a second, and at least SECONDS of real time in all, with rests between
- * the steps. After each hour the presentation is saved, loaded anew and the old one closed, as a player does that goes on for
- * months: then the library holds the same memory each time, and within an hour it takes what the diary takes. Ends with 1 where
- * that isn't so. */
+ * HOURS of document time in steps of a tenth of a second, and at least SECONDS of real time in all, with rests
+ * between the steps. After each hour the presentation is saved, loaded anew and the old one closed, as a player does
+ * that goes on for months: then the library holds the same memory each time, and within an hour it takes what the
+ * diary takes. Ends with 1 where that isn't so. */
 #define _DEFAULT_SOURCE
 #include "heap.h"
 #include "tenphsar.h"
@@ -59,7 +59,8 @@ static void renew(tenphsar *session, char from, char to) {
     answer[len] = 0;
     snprintf(line, sizeof line, "load %c", to);
     give(session, line);
-    for (char *each = strtok(answer, "\n"); each && memcmp(each, "ok ", 3); each = strtok(NULL, "\n")) give(session, each);
+    for (char *each = strtok(answer, "\n"); each && memcmp(each, "ok ", 3); each = strtok(NULL, "\n"))
+        give(session, each);
     give(session, "%%");
     snprintf(line, sizeof line, "close %c", from);
     give(session, line);

@@ -1,7 +1,7 @@
 """Makes the wheel that `pip install ./embed/python` installs; it needs nothing that pip would have to fetch.
 
-The package `tenphsar` is embed/tenphsar.py with the shared library beside it: the one that the variable TENPHSAR_LIBRARY
-names, or else one that the C compiler makes of crates/tenphsar/out/libtenphsar.a and embed/heap.c.
+The package `tenphsar` is embed/tenphsar.py with the shared library beside it: the one that the variable
+TENPHSAR_LIBRARY names, or else one that the C compiler makes of crates/tenphsar/out/libtenphsar.a and embed/heap.c.
 """
 
 import base64
@@ -71,7 +71,8 @@ def library():
         return Path(told).read_bytes()
     archive = TOP / "crates" / NAME / "out" / "libtenphsar.a"
     if not archive.exists():
-        raise RuntimeError(f"there is no {archive}: run embed/build.py after `rt ci`, or name a shared library in TENPHSAR_LIBRARY")
+        raise RuntimeError(f"there is no {archive}: run embed/build.py after `rt ci`, or name a shared library in "
+                           "TENPHSAR_LIBRARY")
     if shutil.which("cc") is None:
         raise RuntimeError("there is no C compiler: name a shared library in TENPHSAR_LIBRARY")
     with tempfile.TemporaryDirectory() as folder:

@@ -1,6 +1,6 @@
-/* The heap of the WebAssembly module: what the library asks of malloc, over the module's own memory. A block has a head of
- * 16 bytes with its size, which is one of four between two powers of two. One that is given back is kept for the next of
- * its size. Beside it stands what the compiler leaves to a library: numbers of 128 bits. */
+/* The heap of the WebAssembly module: what the library asks of malloc, over the module's own memory. A block has a
+ * head of 16 bytes with its size, which is one of four between two powers of two. One that is given back is kept for
+ * the next of its size. Beside it stands what the compiler leaves to a library: numbers of 128 bits. */
 typedef __SIZE_TYPE__ size_t;
 typedef unsigned __int128 wide;
 

@@ -3,10 +3,11 @@
 
 usage: module.py [BITCODE MODULE]
 
-BITCODE is the proved library as LLVM compiled it for x86-64, crates/tenphsar/out/libtenphsar.bc where no words are given,
-and MODULE what is made of it, crates/tenphsar/out/tenphsar.wasm. Rattle proves and lowers the library for 64 bits, and for
-wasm64 it links no heap: so its code for x86-64 is given the layout and the name of wasm64, which has pointers of the same
-size, and is compiled by the kit's clang and linked with heap.c. It reads nothing of the processor. No proof speaks of this.
+BITCODE is the proved library as LLVM compiled it for x86-64, crates/tenphsar/out/libtenphsar.bc where no words are
+given, and MODULE what is made of it, crates/tenphsar/out/tenphsar.wasm. Rattle proves and lowers the library for 64
+bits, and for wasm64 it links no heap: so its code for x86-64 is given the layout and the name of wasm64, which has
+pointers of the same size, and is compiled by the kit's clang and linked with heap.c. It reads nothing of the
+processor. No proof speaks of this.
 """
 
 import re
