@@ -1,10 +1,10 @@
 #!/usr/bin/env python3
 """probe_cases.py --oracle DIR [--out FOLDER] [--seed S] [--cases N] [--files N] [--kind KIND..]
 
-Makes cases for smil_probe and smil_plays and what the reference model in DIR answers
+Makes cases for smil_test_texts and smil_test_plays and what the reference model in DIR answers
 to them: FOLDER gets for each file of cases NAME, the input, and NAME.stdout, the text
 that is wanted. Without FOLDER the stored runs are made: the files stdin and stdout of
-crates/smil_probe and crates/smil_plays, with the cases of `fixed` and some random ones
+crates/smil_test_texts and crates/smil_test_plays, with the cases of `fixed` and some random ones
 of each kind. No value comes from a program. It prints how many cases there are of each
 kind, or for each program."""
 import os
@@ -1122,7 +1122,7 @@ KINDS = {'times': times, 'texts': texts, 'outlines': outlines, 'durations': dura
          'excl': excls, 'keys': keys, 'diaries': diaries, 'graphs': graphs, 'views': views, 'lines': a_line, 'trees': trees, 'plays': plays}
 # cases of many lines, which another program reads (documents_compare.sh)
 LONG = {'documents': documents}
-# the words of cases that smil_plays answers; smil_probe answers all others
+# the words of cases that smil_test_plays answers; smil_test_texts answers all others
 PLAYED = ('graph', 'tree', 'play')
 
 
@@ -1341,8 +1341,8 @@ def main():
         cases = list(fixed())
         for kind in KINDS:
             cases += [KINDS[kind](r) for _ in range(40)]
-        write_stored('smil_probe', [case for case in cases if case[0].split(' ')[0] not in PLAYED])
-        write_stored('smil_plays', [case for case in cases if case[0].split(' ')[0] in PLAYED])
+        write_stored('smil_test_texts', [case for case in cases if case[0].split(' ')[0] not in PLAYED])
+        write_stored('smil_test_plays', [case for case in cases if case[0].split(' ')[0] in PLAYED])
         return
     os.makedirs(ARGS.out, exist_ok=True)
     for kind in ARGS.kind or KINDS:

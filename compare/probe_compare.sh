@@ -1,5 +1,5 @@
 #!/bin/sh
-# probe_compare.sh ORACLE [SEED] [CASES] [KIND..]: compares smil_probe and smil_plays with the
+# probe_compare.sh ORACLE [SEED] [CASES] [KIND..]: compares smil_test_texts and smil_test_plays with the
 # reference model in the folder ORACLE on random cases, CASES of each kind, ten thousand for each
 # run of a program, and prints for each kind the cases, the runs and the lines that differ; the
 # first that differ are shown. The programs are those which `rt run` builds, or PROBE and PLAYS.
@@ -21,8 +21,8 @@ built() {
 kinds=${*:-times texts outlines durations intervals endsync excl keys diaries graphs views lines trees plays}
 for kind in $kinds; do
     case $kind in
-    graphs | trees | plays) program=${plays:=$(built smil_plays)} ;;
-    *) program=${probe:=$(built smil_probe)} ;;
+    graphs | trees | plays) program=${plays:=$(built smil_test_plays)} ;;
+    *) program=${probe:=$(built smil_test_texts)} ;;
     esac
     runs=0
     differ=0

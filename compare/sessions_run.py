@@ -1,8 +1,8 @@
 #!/usr/bin/env python3
 """sessions_run.py [--out DIR] FOLDER
 
-Makes the stored run of smil_sessions: the files stdin and stdout in DIR, which is
-crates/smil_sessions where it isn't told. FOLDER holds worked sessions: NAME.args
+Makes the stored run of smil_test_sessions: the files stdin and stdout in DIR, which is
+crates/smil_test_sessions where it isn't told. FOLDER holds worked sessions: NAME.args
 (the words), NAME.in, NAME.out and NAME.status, which are served in pieces, and
 line by line, where each line waits for the answers before it; every fifth of them is
 held by a host too, which asks for its moments at its end. NAME.reads.table
@@ -323,7 +323,7 @@ def listed(folder):
 
 def main():
     parser = argparse.ArgumentParser(description=__doc__, formatter_class=argparse.RawDescriptionHelpFormatter)
-    parser.add_argument('--out', type=Path, default=TOP / 'crates' / 'smil_sessions')
+    parser.add_argument('--out', type=Path, default=TOP / 'crates' / 'smil_test_sessions')
     parser.add_argument('folder', type=Path)
     arguments = parser.parse_args()
     run = listed(arguments.folder)

@@ -38,7 +38,7 @@ LAWS = {
 }
 
 # the files whose records without parameters are worked presentations: all that such a record says has to hold
-WORKED = ("smil_rows", "smil_live.WorkedCounts")
+WORKED = ("smil_worked", "smil_live.WorkedCounts")
 
 # statuses that no definition gives a value: what an audit that finds no fault ends with, what another ends with,
 # and what faulty words end with (specs/Serving says of each what was written)

@@ -61,7 +61,7 @@ def faults_of(text):
     """What is named and isn't there."""
     functions = {name for file in CRATES.glob("*/src/**/*.rt") for name in re.findall(r"fn (\w+)", file.read_text())}
     yield from (f"no law {name}" for name in laws_of(text) if name not in functions)
-    cases = {line.split(" ")[0] for line in (CRATES / "smil_probe" / "stdin").read_text().splitlines()}
+    cases = {line.split(" ")[0] for line in (CRATES / "smil_test_texts" / "stdin").read_text().splitlines()}
     for folders, cells in rules_of(text):
         file = None
         for own, name, folder in _DEFINITION.findall(cells[3]) if "`smil_model`" not in cells[3] else []:

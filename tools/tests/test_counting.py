@@ -10,7 +10,7 @@ import unittest
 from calling import TOP
 
 # The library too counts the evaluations of a line by a counter made for it, since its caller is told of none.
-PROGRAMS = ("smilplay", "smil_sessions", "smil_plays", "smil_probe", "tenphsar")
+PROGRAMS = ("smilplay", "smil_test_sessions", "smil_test_plays", "smil_test_texts", "tenphsar")
 SEARCHES = re.compile(r"\b(?:first_interval|next_interval|interval_at)\b")
 COUNTERS = re.compile(r"\bBlank::new\b|\bSteps(?:::<\w+>)?::new\b|\.open::<")
 
@@ -55,7 +55,7 @@ class Counting(unittest.TestCase):
 
     def test_intervals_are_searched_by_evaluate_and_the_program_of_cases_alone(self):
         places = self.found(lambda line: SEARCHES.search(imported(line)))
-        self.assertEqual(set(places) - {"smil_interval"}, {"smil_probe"}, places)
+        self.assertEqual(set(places) - {"smil_interval"}, {"smil_test_texts"}, places)
 
 
 if __name__ == "__main__":

@@ -27,15 +27,15 @@ use Rattle.smil_grammar.specs.Lists.{list_of, IsList}
 use Rattle.smil_grammar.specs.Values.{id_of, attribute_name_of, restart_default_of, fill_default_of, is_kept, kept_of, dur_of, time_of, repeat_dur_of, repeat_count_of, restart_of, fill_of, endsync_of, peers_of, higher_of, lower_of, plain_value_of}
 use Rattle.smil_grammar.specs.Spellings.{item_text, list_text, attr_text, dur_text, time_text, decimals, count_text, endsync_text}
 use Rattle.smil_grammar.specs.Allowed.{IsAttr}
-use Rattle.smil_lexis.proofs.Fronts.{Passes, tested, passes_weaker, passes_on}
-use Rattle.smil_time_list.proofs.Printable.{Printable, item_printable, clock_small}
-use Rattle.smil_time_list.proofs.Listed.{is_ink, id_ink, digit_ink, number_ink, clock_ink, item_ink}
-use Rattle.smil_attrs.proofs.Readings.{IsSmall, value, any_value, listed, own_where, all_attrs}
-use Rattle.smil_attrs.proofs.Cases.{dur_reads, time_reads, repeat_reads, count_reads, endsync_reads}
-use Rattle.smil_attrs.proofs.Counts.{IsCount, digit_printed}
-use Rattle.smil_attrs.proofs.Kept.{lists}
-use Rattle.smil_attrs.proofs.Words.{id_passes, attribute_name_passes}
-use Rattle.smil_attrs.proofs.Valued.{IsSpelled, restart_spelled, fill_spelled, restart_default_spelled, fill_default_spelled, act_spelled}
+use Rattle.smil_lexis.proofs.TestedFronts.{Passes, tested, passes_weaker, passes_on}
+use Rattle.smil_time_list.proofs.PrintableItems.{Printable, item_printable, clock_small}
+use Rattle.smil_time_list.proofs.ListRoundTrip.{is_ink, id_ink, digit_ink, number_ink, clock_ink, item_ink}
+use Rattle.smil_attrs.proofs.ReadParts.{IsSmall, value, any_value, listed, own_where, all_attrs}
+use Rattle.smil_attrs.proofs.AttributeCases.{dur_reads, time_reads, repeat_reads, count_reads, endsync_reads}
+use Rattle.smil_attrs.proofs.CountRoundTrip.{IsCount, digit_printed}
+use Rattle.smil_attrs.proofs.EditedAttributes.{lists}
+use Rattle.smil_attrs.proofs.WordRoundTrip.{id_passes, attribute_name_passes}
+use Rattle.smil_attrs.proofs.ValueRoundTrip.{IsSpelled, restart_spelled, fill_spelled, restart_default_spelled, fill_default_spelled, act_spelled}
 
 abbrev pub AreKept : List ℕ → Type 0
 AreKept text = Passes is_kept text

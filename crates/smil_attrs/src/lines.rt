@@ -20,7 +20,7 @@ use smil_time_list::offsets::count;
 use std::alloc::AllocError;
 
 // Appends two spaces for each level.
-#[tactic(auto, using(smil_model::proofs::Growing::begins_on))]
+#[tactic(auto, using(smil_model::proofs::GrowingTexts::begins_on))]
 fn put_indent(depth: u32, out: &mut Bytes) -> Result<(), AllocError>
     ensures ok { OnOk result (out.new ≡ out.old ++ replicate (2 * depth) space) }
     ensures err { OnErr result (Begins out.old out.new) }
@@ -32,7 +32,7 @@ fn put_indent(depth: u32, out: &mut Bytes) -> Result<(), AllocError>
 }
 
 // Appends the attributes that are there, in their order.
-#[tactic(auto, using(smil_model::proofs::Growing::begins_on))]
+#[tactic(auto, using(smil_model::proofs::GrowingTexts::begins_on))]
 fn put_attrs(kind: Kind, attrs: &Attrs, out: &mut Bytes) -> Result<(), AllocError>
     requires { IsAttrs false kind attrs.now }
     ensures ok { OnOk result (out.new ≡ out.old
@@ -46,7 +46,7 @@ fn put_attrs(kind: Kind, attrs: &Attrs, out: &mut Bytes) -> Result<(), AllocErro
 }
 
 // Appends the line of a node.
-#[tactic(auto, using(smil_model::proofs::Growing::begins_on))]
+#[tactic(auto, using(smil_model::proofs::GrowingTexts::begins_on))]
 fn put_node(depth: u32, kind: Kind, attrs: &Attrs, out: &mut Bytes) -> Result<(), AllocError>
     requires { IsAttrs false kind attrs.now }
     ensures ok { OnOk result (out.new ≡ out.old ++ node_text depth kind attrs.now) }
@@ -72,7 +72,7 @@ pub fn write_node(depth: u32, kind: Kind, attrs: &Attrs, out: &mut Bytes) -> Res
 }
 
 // Appends a text and a number behind it.
-#[tactic(auto, using(smil_model::proofs::Growing::begins_on))]
+#[tactic(auto, using(smil_model::proofs::GrowingTexts::begins_on))]
 fn put_number(text: &[u8], number: u32, out: &mut Bytes) -> Result<(), AllocError>
     ensures ok { OnOk result (out.new ≡ out.old ++ text.now ++ decimal number) }
     ensures err { OnErr result (Begins out.old out.new) }
@@ -83,7 +83,7 @@ fn put_number(text: &[u8], number: u32, out: &mut Bytes) -> Result<(), AllocErro
 }
 
 // Appends the line of a node with its serial.
-#[tactic(auto, using(smil_model::proofs::Growing::begins_on))]
+#[tactic(auto, using(smil_model::proofs::GrowingTexts::begins_on))]
 fn put_node_2(depth: u32, node: &Node, out: &mut Bytes) -> Result<(), AllocError>
     requires { IsAttrs false node.now.kind node.now.attrs }
     ensures ok { OnOk result (out.new ≡ out.old

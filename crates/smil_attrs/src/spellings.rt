@@ -164,7 +164,7 @@ fn put_count(count: Count, out: &mut Bytes) -> Result<(), AllocError>
 }
 
 // The name of an attribute, behind a space and before its value.
-#[tactic(auto, using(smil_model::proofs::Growing::begins_on))]
+#[tactic(auto, using(smil_model::proofs::GrowingTexts::begins_on))]
 fn put_name(name: AttrName, out: &mut Bytes) -> Result<(), AllocError>
     ensures ok { OnOk result (out.new ≡ out.old ++ space ∷ (name_text name ++ codes "=\"")) }
     ensures err { OnErr result (Begins out.old out.new) }
@@ -247,7 +247,7 @@ fn value_of(name: AttrName, attrs: &Attrs) -> Option<Value<'_>>
 
 /// Appends an attribute of this name, where it is there. After a refusal what was there before
 /// stays at the front.
-#[tactic(auto, using(smil_model::proofs::Growing::begins_on))]
+#[tactic(auto, using(smil_model::proofs::GrowingTexts::begins_on))]
 pub fn put_attr(name: AttrName, attrs: &Attrs, out: &mut Bytes) -> Result<(), AllocError>
     requires { IfSome (attr_at attrs.now name) CanWriteAttr }
     ensures ok { OnOk result (out.new ≡ out.old

@@ -1,8 +1,8 @@
-pub mod Accepted
-pub mod Fronts
-pub mod Going
-pub mod Keys
-pub mod Replays
+pub mod OwnDiaryAccepted
+pub mod AgreeingFronts
+pub mod ReplaySteps
+pub mod LeastKeys
+pub mod ReplayCourses
 pub mod StepCounts
-pub mod Verdicts
-pub mod Walking
+pub mod VerdictsExact
+pub mod ResolutionSteps

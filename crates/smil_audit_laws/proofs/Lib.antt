@@ -1,7 +1,7 @@
-pub mod Cuts
-pub mod Said
-pub mod Plain
-pub mod Outlined
-pub mod Audited
-pub mod Written
-pub mod Others
+pub mod LinesCut
+pub mod EntryRoundTrip
+pub mod EntriesWritable
+pub mod SavedOutlineLines
+pub mod DiaryLinesRead
+pub mod WrittenDiaryAccepted
+pub mod OnlyOwnDiary

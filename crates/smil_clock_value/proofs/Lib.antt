@@ -1,2 +1,2 @@
-pub mod Again
-pub mod Within
+pub mod ClockRoundTrip
+pub mod ClockLimits

@@ -109,7 +109,7 @@ pub fn read_clock(bytes: &[u8]) -> Result<i64, ClockFault>
 
 /// The milliseconds of a clock value that isn't above the horizon, as it stands in other values and
 /// in orders; none for all other texts.
-#[tactic(auto, using(crate::proofs::Within::clock_ok, crate::proofs::Within::clock_err))]
+#[tactic(auto, using(crate::proofs::ClockLimits::clock_ok, crate::proofs::ClockLimits::clock_err))]
 pub fn clock_within(bytes: &[u8]) -> Option<i64>
     ensures value { result ≡ option_map pos (clock_within_limit bytes.now) }
     ensures moment { IfSome result IsMoment }

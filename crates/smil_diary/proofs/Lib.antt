@@ -1,9 +1,9 @@
-pub mod Choices
-pub mod Rising
+pub mod TestChoices
+pub mod RisingPlaces
 pub mod PlaceLists
 pub mod LastPlaces
-pub mod Elements
-pub mod Counts
-pub mod Histories
-pub mod Finished
-pub mod Rows
+pub mod ElementIndex
+pub mod EntryCounts
+pub mod HistoryReadings
+pub mod FinishedIntervals
+pub mod IndexRows

@@ -11,7 +11,7 @@ use Rattle.std.proofs.lemmas.Bool.{ltb-true}
 use Rattle.smil_model.specs.declared.diary.Entry.{Entry}
 use Rattle.smil_model.specs.diary.Diary.{last_place, later_place, with_past}
 use Rattle.smil_diary.specs.ElementPlaces.{places_from, with_place_first, grown, but_last}
-use Rattle.smil_diary.proofs.Rising.{count-cons}
+use Rattle.smil_diary.proofs.RisingPlaces.{count-cons}
 
 -- ---- one more element at the end
 

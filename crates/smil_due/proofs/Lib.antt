@@ -1,3 +1,3 @@
-pub mod Before
-pub mod Sets
-pub mod Serials
+pub mod KeyOrder
+pub mod KeySets
+pub mod KeySerials

@@ -19,13 +19,13 @@ use Rattle.smil_model.specs.shown.Views.{begins_next, finished_by, is_displaced,
 use Rattle.smil_model.specs.declared.document.Kind.{Kind}
 use Rattle.smil_model.specs.declared.document.Kind.TheVariants as kinds
 use Rattle.std.proofs.lemmas.Option.{same_Some}
-use Rattle.smil_laws.proofs.Aside.{each_drop, each_filter}
-use Rattle.smil_laws.proofs.Lineages.{swap_eqb}
-use Rattle.smil_laws.proofs.Members.{Differ, differ_all, differ_kept}
-use Rattle.smil_past.proofs.Above.{IsUp, parent_node}
-use Rattle.smil_instances.proofs.Targets.{known_node}
+use Rattle.smil_laws.proofs.AsideDocuments.{each_drop, each_filter}
+use Rattle.smil_laws.proofs.LineageParents.{swap_eqb}
+use Rattle.smil_laws.proofs.ListMembers.{Differ, differ_all, differ_kept}
+use Rattle.smil_past.proofs.TimeParents.{IsUp, parent_node}
+use Rattle.smil_instances.proofs.IdTargets.{known_node}
 use Rattle.smil_element.specs.Displaced.{began_from, following, may_set_off}
-use Rattle.smil_element.proofs.Siblings.{sibling_is, IsKnown, any_all, any_none, any_place, is_child, known_all}
+use Rattle.smil_element.proofs.SiblingDisplacement.{sibling_is, IsKnown, any_all, any_none, any_place, is_child, known_all}
 
 -- ---- by its place
 

@@ -8,7 +8,7 @@ use Rattle.smil_model.specs.document.Valid.{IsNumberedTree}
 use Rattle.smil_model.specs.diary.Diary.{History, is_active, lives_under}
 use Rattle.smil_model.specs.diary.Clocks.{iteration_start, start_under}
 use Rattle.smil_past.specs.Played.{played}
-use Rattle.smil_past.proofs.Active.{begun_is}
+use Rattle.smil_past.proofs.KeptActivity.{begun_is}
 
 pub lives_told : (h : History) (next : ℕ) → IsNumberedTree (record { nodes = h.nodes; next = next }) → (node : Option Node) (s : ℕ) (t : Bool) → serial_of node ≡ Some s → t ≡ is_some (played h s).begun → t ≡ lives_under node h.diary
 lives_told h next tree None s t is told = cc

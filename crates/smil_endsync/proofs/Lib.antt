@@ -1,4 +1,4 @@
-pub mod Children
-pub mod Orders
-pub mod Summaries
-pub mod Naming
+pub mod ChildEndFolds
+pub mod TimeOrders
+pub mod ChildSummaries
+pub mod NamedChild

@@ -1,4 +1,4 @@
-pub mod Line
-pub mod Following
-pub mod Once
-pub mod Waiting
+pub mod QueuePlaces
+pub mod QueueEntries
+pub mod QueueDistinct
+pub mod QueueMembers

@@ -1,5 +1,5 @@
-pub mod ClockValues
-pub mod Names
-pub mod TimeLists
-pub mod Lines
-pub mod Results
+pub mod ReadClockValues
+pub mod ReadNames
+pub mod ReadTimeLists
+pub mod ReadLines
+pub mod ResultFaults

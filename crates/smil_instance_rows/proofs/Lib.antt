@@ -1,6 +1,6 @@
-pub mod InOrder
-pub mod Merge
-pub mod Serials
-pub mod Sides
-pub mod Tables
+pub mod TimesByPlace
+pub mod MergedValues
+pub mod RowsBySerial
+pub mod SideValues
+pub mod CellChanges
 pub mod Noted

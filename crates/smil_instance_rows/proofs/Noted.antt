@@ -14,7 +14,7 @@ use Rattle.smil_instance_rows.specs.declared.notes.RowNote.{RowNote}
 use Rattle.smil_instance_rows.specs.Rows.{ElementTimes, before_place, row_before, rows_before}
 use Rattle.smil_instance_rows.specs.Cells.{list_of, with_list}
 use Rattle.smil_instance_rows.specs.Changes.{cell_of, no_row, row_at, with_add, with_adds, with_cell}
-use Rattle.smil_instance_rows.proofs.InOrder.{before_push}
+use Rattle.smil_instance_rows.proofs.TimesByPlace.{before_push}
 use Rattle.smil_instance_rows.specs.Notes.{AreMarked, Goes, HasNoted, MarkedRows, all_put, cut_to, is_noted, row_with_times, rows_back, times_put}
 
 -- ---- one after another

@@ -5,7 +5,7 @@ ghost use Rattle.smil_model.specs.declared.times.Time.{Time as GivenTime};
 ghost use Rattle.smil_model.specs.Times.{time_le};
 ghost use Rattle.smil_model.specs.interval.Instances.{number_of};
 ghost use Rattle.smil_model.specs.Rising.{IsOrder};
-ghost use Rattle.smil_model.proofs.Orders.{numbers_order, times_order};
+ghost use Rattle.smil_model.proofs.NumberOrders.{numbers_order, times_order};
 
 use smil_model::Time;
 

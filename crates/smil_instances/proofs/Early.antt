@@ -18,7 +18,7 @@ use Rattle.smil_diary.proofs.PlaceLists.{past-length}
 use Rattle.smil_instance_rows.specs.declared.item_times.InstanceTime.{InstanceTime}
 use Rattle.smil_instance_rows.specs.Rows.{at_place, before_place, from_place, row_before, rows_before}
 use Rattle.smil_instances.specs.SettledTimes.{all_edges, all_heard, event_instances, heard_time, instances_of, named_instances, occurs_event, occurs_key, occurs_repeat, offset_instances, repeat_instances, row_of, settled_rows}
-use Rattle.smil_instances.proofs.Places.{placed}
+use Rattle.smil_instances.proofs.PlacedLists.{placed}
 
 module _ (n : ℕ) where
   abbrev AreEarly : List InstanceTime → Type 0

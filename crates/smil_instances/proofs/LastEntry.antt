@@ -7,9 +7,9 @@ use Rattle.smil_model.specs.document.Document.{Document}
 use Rattle.smil_model.specs.diary.Diary.{History, last_moment}
 use Rattle.smil_stretch.specs.declared.clock.NodeClock.{NodeClock}
 use Rattle.smil_model.specs.Times.{IsMoment}
-use Rattle.smil_model.proofs.Orders.{le_from}
-use Rattle.smil_stretch.proofs.Moments.{rising_push}
-use Rattle.smil_stretch.proofs.Turning.{entry_moment}
+use Rattle.smil_model.proofs.NumberOrders.{le_from}
+use Rattle.smil_stretch.proofs.ClockAtMoment.{rising_push}
+use Rattle.smil_stretch.proofs.PauseTurns.{entry_moment}
 use Rattle.smil_instances.specs.Entry.{IsEntryOf}
 use Rattle.smil_instances.specs.Contribution.{AreClocksAt}
 

@@ -1,5 +1,5 @@
-pub mod Ordered
-pub mod Orders
-pub mod Parts
-pub mod Searches
-pub mod Limits
+pub mod OrderedLists
+pub mod TimeOrderTests
+pub mod SearchParts
+pub mod IntervalSearch
+pub mod EndLimit

@@ -17,9 +17,9 @@ use Rattle.smil_model.specs.happening.Queue.{class_if, parent_of, class_of, plac
 use Rattle.smil_model.specs.happening.Keys.{Change, begins, ends, repeats}
 use Rattle.smil_model.specs.happening.Groups.{cuts, follower, followers, interruption, begin_beside, begin_under, steps_of, at_moment, group}
 use Rattle.smil_laws.specs.Agreement.{IsPlaced, DifferBelow, is_on, SparesAll}
-use Rattle.smil_laws.proofs.Rounds.{find-serial}
-use Rattle.smil_laws.proofs.Kept.{lineage_same, parent_same, parent_time_same}
-use Rattle.smil_laws.proofs.Aside.{find_each, find_true, each_append, each_reverse, each_filter, find_within, filter_swap, inactive, is_out, spared, closed}
+use Rattle.smil_laws.proofs.RoundsRest.{find-serial}
+use Rattle.smil_laws.proofs.KeptNodes.{lineage_same, parent_same, parent_time_same}
+use Rattle.smil_laws.proofs.AsideDocuments.{find_each, find_true, each_append, each_reverse, each_filter, find_within, filter_swap, inactive, is_out, spared, closed}
 use Rattle.smil_laws.proofs.AsideIntervals.{far, children_ok}
 use Rattle.smil_laws.proofs.Lists.{each_weaker, each_kept}
 

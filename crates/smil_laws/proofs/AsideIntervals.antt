@@ -25,17 +25,17 @@ use Rattle.smil_model.specs.diary.Diary.{History, is_active, birth, up_to, with_
 use Rattle.smil_model.specs.diary.Clocks.{outer}
 use Rattle.smil_model.specs.document.Dependencies.{leads_to, is_sync_with, has_implicit_duration}
 use Rattle.smil_model.specs.document.Closure.{has}
-use Rattle.smil_laws.proofs.Aside.{SameLogged, NamesAlike, event_same, press_same, media_same, each_both, each_drop, each_filter, map_all, filter_map_all, filter_map_none, any_each, find_within, filter_swap, with_past_each, inactive, is_out, is_aside, other_who, closed, parent_out, child_kept, no_interval}
+use Rattle.smil_laws.proofs.AsideDocuments.{SameLogged, NamesAlike, event_same, press_same, media_same, each_both, each_drop, each_filter, map_all, filter_map_all, filter_map_none, any_each, find_within, filter_swap, with_past_each, inactive, is_out, is_aside, other_who, closed, parent_out, child_kept, no_interval}
 use Rattle.smil_model.specs.interval.Instances.{is_press, edge_time, is_same_event, hears, heard_times, is_event, is_repeat, event_times, repeat_times, offset_times, named_times, sync_times, item_times, begin_times, end_times}
 use Rattle.smil_model.specs.interval.Durations.{stated_duration}
 use Rattle.smil_model.specs.interval.Intervals.{interval_of}
 use Rattle.smil_model.specs.interval.Current.{child_end, container_implicit, implicit_of, simple_of, present_play, facts_of, interval_given, current_interval}
 use Rattle.smil_laws.specs.Agreement.{IsAside, DifferBelow, is_on, SparesAll}
 use Rattle.smil_model.specs.reach.Bounds.{has_begun}
-use Rattle.smil_laws.proofs.Kept.{parent_same, restart_same, alive_same, reset_same, deferral_same, iteration_same, passed_same, in_seq_same, own_same, parent_time_same, parent_held_same, play_start_same, iteration_start_same, parent_start_same, plays_same, children_same, sync_same}
-use Rattle.smil_laws.proofs.Rounds.{after_rounds, after_rounds-suc, find-serial}
-use Rattle.smil_laws.proofs.Reached.{own_is_all}
-use Rattle.smil_laws.proofs.Settled.{rounds_rest}
+use Rattle.smil_laws.proofs.KeptNodes.{parent_same, restart_same, alive_same, reset_same, deferral_same, iteration_same, passed_same, in_seq_same, own_same, parent_time_same, parent_held_same, play_start_same, iteration_start_same, parent_start_same, plays_same, children_same, sync_same}
+use Rattle.smil_laws.proofs.RoundsRest.{after_rounds, after_rounds-suc, find-serial}
+use Rattle.smil_laws.proofs.ReachClosed.{own_is_all}
+use Rattle.smil_laws.proofs.SettledRounds.{rounds_rest}
 
 -- ---- lists
 

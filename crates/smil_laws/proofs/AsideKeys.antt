@@ -18,8 +18,8 @@ use Rattle.smil_model.specs.declared.happening.TheConstants.{BEGIN_CLASS}
 use Rattle.smil_model.specs.happening.Keys.{DueChange, coming_begin, coming_end_at, coming_end, coming_repeat_at, coming_repeat, coming_of, coming_from, coming, comes_before, earlier_coming, first_coming}
 use Rattle.smil_laws.specs.Agreement.{DifferBelow, SparesAll}
 use Rattle.smil_model.specs.reach.Bounds.{has_begun}
-use Rattle.smil_laws.proofs.Kept.{held_same, parent_held_same, parent_time_same, own_same, play_start_same, iteration_start_same, iteration_same}
-use Rattle.smil_laws.proofs.Aside.{NamesAlike, not_aside, each_append, each_filter, filter_swap, inactive, spared, closed}
+use Rattle.smil_laws.proofs.KeptNodes.{held_same, parent_held_same, parent_time_same, own_same, play_start_same, iteration_start_same, iteration_same}
+use Rattle.smil_laws.proofs.AsideDocuments.{NamesAlike, not_aside, each_append, each_filter, filter_swap, inactive, spared, closed}
 use Rattle.smil_laws.proofs.AsideIntervals.{simple_same, current_none, current_same}
 use Rattle.smil_laws.proofs.Lists.{each_weaker}
 use Rattle.std.specs.List.{AllByRecursion}

@@ -12,10 +12,10 @@ use Rattle.smil_laws.specs.Locality.{NoParent, ParentsBefore}
 use Rattle.smil_model.specs.document.Edits.{changed_at}
 use Rattle.smil_laws.specs.Agreement.{IsPlaced, IsAside, DifferBelow, without_aside}
 use Rattle.smil_laws.specs.Edited.{KeepsReferences, IsOrdered}
-use Rattle.smil_laws.proofs.Kept.{KeepsParents, upwards_kept, filter_reverse}
-use Rattle.smil_laws.proofs.Lineages.{skip, take_it, upwards-rest, upwards-head}
-use Rattle.smil_laws.proofs.Aside.{find_each, each_append, each_reverse, each_drop, each_filter, find_within, filter_swap, not_aside, other_who}
-use Rattle.smil_laws.proofs.Below.{IsChain, ordered_chains, under_some, edited_below, all_placed}
+use Rattle.smil_laws.proofs.KeptNodes.{KeepsParents, upwards_kept, filter_reverse}
+use Rattle.smil_laws.proofs.LineageParents.{skip, take_it, upwards-rest, upwards-head}
+use Rattle.smil_laws.proofs.AsideDocuments.{find_each, each_append, each_reverse, each_drop, each_filter, find_within, filter_swap, not_aside, other_who}
+use Rattle.smil_laws.proofs.DescendantChains.{IsChain, ordered_chains, under_some, edited_below, all_placed}
 use Rattle.smil_laws.proofs.Lists.{each_weaker, each_kept, each_take}
 
 -- ---- from the parts of an edit

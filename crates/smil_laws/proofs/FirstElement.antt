@@ -16,9 +16,9 @@ use Rattle.smil_model.specs.interval.Durations.{bounds_of, intermediate_end}
 use Rattle.smil_model.specs.interval.Instances.{number_of}
 use Rattle.smil_model.specs.interval.Current.{simple_of, current_interval}
 use Rattle.smil_model.specs.happening.Keys.{DueChange, ends, repeats, coming_begin, coming_end_at, coming_end, coming_repeat_at, coming_repeat, coming_of, coming_from, coming, earlier_coming, first_coming, comes_before}
-use Rattle.smil_laws.proofs.Aside.{each_append, each_both}
-use Rattle.smil_laws.proofs.Lineages.{swap_eqb}
-use Rattle.smil_laws.proofs.Members.{Differ, differ_all, differ_kept}
+use Rattle.smil_laws.proofs.AsideDocuments.{each_append, each_both}
+use Rattle.smil_laws.proofs.LineageParents.{swap_eqb}
+use Rattle.smil_laws.proofs.ListMembers.{Differ, differ_all, differ_kept}
 use Rattle.smil_laws.proofs.Lists.{each_weaker}
 use Rattle.smil_laws.specs.Firsts.{moved_by, IsOfElement}
 

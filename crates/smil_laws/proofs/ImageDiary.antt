@@ -7,7 +7,7 @@ use Rattle.smil_model.specs.declared.times.TheConstants.{HORIZON}
 use Rattle.smil_model.specs.declared.diary.Entry.{Entry}
 use Rattle.smil_model.specs.happening.Resolution.{Progress, resolved}
 use Rattle.smil_laws.specs.Image.{image, begin_at, end_at, image_diary}
-use Rattle.smil_laws.proofs.Built.{early, during, after}
+use Rattle.smil_laws.proofs.ImageParBuilt.{early, during, after}
 
 abbrev diary_at : ℕ → ℕ → ℕ → List ℕ → List Entry
 diary_at b d now id = (resolved (record { nodes = image b d id; log = []; last = now })).diary

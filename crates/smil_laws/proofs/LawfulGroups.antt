@@ -20,10 +20,10 @@ use Rattle.smil_model.specs.happening.Queue.{is_playing, playing_child, queue_of
 use Rattle.smil_model.specs.happening.Keys.{Change, begins, ends, repeats}
 use Rattle.smil_model.specs.happening.Groups.{cuts, follower, followers, end_steps, interruption, begin_beside, begin_under, at_moment, group}
 use Rattle.smil_laws.specs.Edited.{IsOrdered}
-use Rattle.smil_laws.proofs.Lineages.{swap_eqb}
-use Rattle.smil_laws.proofs.Aside.{each_filter, each_reverse, find_each, find_true}
-use Rattle.smil_laws.proofs.Members.{holds, held_each, held_reverse, held_kept, found_held, Differ, differ_all, differ_kept, differ_reverse}
-use Rattle.smil_laws.proofs.Ancestry.{below_none, parent_apart, child_apart}
+use Rattle.smil_laws.proofs.LineageParents.{swap_eqb}
+use Rattle.smil_laws.proofs.AsideDocuments.{each_filter, each_reverse, find_each, find_true}
+use Rattle.smil_laws.proofs.ListMembers.{holds, held_each, held_reverse, held_kept, found_held, Differ, differ_all, differ_kept, differ_reverse}
+use Rattle.smil_laws.proofs.DescendantOrder.{below_none, parent_apart, child_apart}
 use Rattle.smil_laws.proofs.LawfulSteps.{pausing, active_push, pausing_push, still, by, Follow, follow_append, Known, IsWaiting, AllWaiting}
 use Rattle.smil_laws.proofs.Lists.{each_weaker, each_kept}
 

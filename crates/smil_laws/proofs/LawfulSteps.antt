@@ -13,7 +13,7 @@ use Rattle.smil_model.specs.declared.document.Node.{Node}
 use Rattle.smil_model.specs.diary.Diary.{History, active_after, is_active, paused_after, is_paused, is_alive, with_past}
 use Rattle.smil_model.specs.diary.Lawful.{has_element, may_begin, is_lawful_step, AllLawful}
 use Rattle.smil_model.specs.happening.Queue.{rank, put_paused, put_deferred, without, is_child_of, queue_after, queue_of}
-use Rattle.smil_laws.proofs.Lineages.{swap_eqb}
+use Rattle.smil_laws.proofs.LineageParents.{swap_eqb}
 use Rattle.smil_laws.proofs.Lists.{each_weaker, each_chosen}
 
 -- ---- one entry

@@ -13,7 +13,7 @@ use Rattle.smil_model.specs.diary.Clocks.{stands, outer_stands, play_start, iter
 use Rattle.smil_model.specs.interval.Durations.{bounds_of, intermediate_end}
 use Rattle.smil_model.specs.interval.Current.{simple_of, interval_given, in_table, table, current_table}
 use Rattle.smil_model.specs.happening.Keys.{DueChange, coming_begin, coming_end_at, coming_end, coming_repeat_at, coming_repeat, coming_of, coming_from, coming, earlier_coming, comes_before}
-use Rattle.smil_laws.proofs.Aside.{each_append}
+use Rattle.smil_laws.proofs.AsideDocuments.{each_append}
 use Rattle.smil_laws.specs.Near.{AllNear, IsTimeNear, ComingIsNear, value_in}
 use Rattle.smil_laws.proofs.NearIntervals.{IntervalNear, given_near_all, later_near}
 

@@ -19,7 +19,7 @@ use Rattle.smil_model.specs.happening.Keys.{Change, begins, ends, repeats}
 use Rattle.smil_model.specs.happening.Groups.{cuts, follower, followers, interruption, begin_beside, begin_under, steps_of, group}
 use Rattle.smil_model.specs.happening.Resolution.{Course, Progress, outset, history_at, after_steps}
 use Rattle.smil_laws.specs.Agreement.{course_on}
-use Rattle.smil_laws.proofs.Aside.{each_append}
+use Rattle.smil_laws.proofs.AsideDocuments.{each_append}
 use Rattle.smil_laws.proofs.AsideGroups.{each_map}
 use Rattle.smil_laws.proofs.ResolvedSteps.{Keeps, steps_keep}
 use Rattle.smil_model.specs.Times.{IsNear}

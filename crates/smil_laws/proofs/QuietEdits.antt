@@ -10,9 +10,9 @@ use Rattle.smil_model.specs.happening.Resolution.{Progress, outset, after_steps,
 use Rattle.smil_laws.specs.Agreement.{DifferBelow, course_on}
 use Rattle.smil_model.specs.reach.Bounds.{has_begun, through_begin}
 use Rattle.smil_laws.specs.Edited.{Edit, sets, unsets, inserts, removes, edited, nodes_with, IsQuietEdit}
-use Rattle.smil_laws.proofs.Numbered.{all_low, ordered}
+use Rattle.smil_laws.proofs.NumberedTrees.{all_low, ordered}
 use Rattle.smil_laws.proofs.EditsBelow.{attrs_differ, removal_differs, insertion_differs}
-use Rattle.smil_laws.proofs.Through.{agrees_through_begin, same_unless_begun}
+use Rattle.smil_laws.proofs.DiaryThroughBegin.{agrees_through_begin, same_unless_begun}
 use Rattle.smil_laws.proofs.Lists.{each_weaker}
 
 below_differs : (a b : ℕ) → a < b → a == b ≡ false

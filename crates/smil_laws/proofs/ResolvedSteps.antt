@@ -16,14 +16,14 @@ use Rattle.smil_model.specs.diary.Lawful.{is_rising_from, IsLawful}
 use Rattle.smil_model.specs.happening.Keys.{DueChange, coming, first_coming, is_due}
 use Rattle.smil_model.specs.happening.Groups.{steps_of, at_moment, group}
 use Rattle.smil_model.specs.happening.Resolution.{Course, Progress, outset, history_at, after_quiet, after_settling, after_coming, next_step, after_steps}
-use Rattle.smil_model.proofs.Orders.{le_self, le_both}
+use Rattle.smil_model.proofs.NumberOrders.{le_self, le_both}
 use Rattle.smil_laws.specs.Agreement.{course_on}
 use Rattle.smil_laws.specs.Edited.{IsOrdered}
 use Rattle.smil_laws.specs.Resolved.{history_after}
-use Rattle.smil_laws.proofs.Numbered.{ordered}
+use Rattle.smil_laws.proofs.NumberedTrees.{ordered}
 use Rattle.smil_laws.proofs.LawfulSteps.{Follow, follow_append, all_lawful, known_all, all_waiting}
 use Rattle.smil_laws.proofs.LawfulGroups.{Live, group_sound, same_live, mark}
-use Rattle.smil_laws.proofs.Comings.{first_may}
+use Rattle.smil_laws.proofs.ComingsMayHappen.{first_may}
 
 -- ---- moments
 

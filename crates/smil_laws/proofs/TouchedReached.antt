@@ -9,8 +9,8 @@ use Rattle.smil_model.specs.declared.document.Node.{Node}
 use Rattle.smil_model.specs.document.Document.{elements, node_at, is_within, serials}
 use Rattle.smil_model.specs.document.Closure.{has}
 use Rattle.smil_model.specs.reach.Reach.{reads, is_near, near, down, down_from, waiters, down_key, subject_of, key_of, reach_by, reach}
-use Rattle.smil_laws.proofs.Closures.{has_filter, is_closed, has_set}
-use Rattle.smil_laws.proofs.Reached.{own_is_all}
+use Rattle.smil_laws.proofs.ClosureExact.{has_filter, is_closed, has_set}
+use Rattle.smil_laws.proofs.ReachClosed.{own_is_all}
 use Rattle.smil_laws.specs.Touched.{is_touched, is_touched_from, is_touched_through, is_touched_by, in_reaches, ReachHolds}
 
 -- what follows from each serial of these that passes follows from one that passes

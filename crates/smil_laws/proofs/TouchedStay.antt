@@ -21,11 +21,11 @@ use Rattle.smil_model.specs.interval.Instances.{is_press}
 use Rattle.smil_model.specs.interval.Current.{interval_given, simple_of}
 use Rattle.smil_model.specs.happening.Keys.{coming_of, coming_begin, coming_end, coming_end_at, coming_repeat, coming_repeat_at}
 use Rattle.smil_model.specs.reach.Reach.{reads, reads_node, is_key_item, waiters, key_of, subject_of}
-use Rattle.smil_laws.proofs.Lineages.{ParentsBefore}
-use Rattle.smil_laws.proofs.Foreign.{is_about, Apart, ReadsApart, active-then, own-then, parent-then, own_held-then, parent_held-then, play_start-then, iteration_start-then, iteration-then, simple-then, interval-then}
-use Rattle.smil_laws.proofs.Law.{IsOutside, IsMute}
-use Rattle.smil_laws.proofs.Reached.{any_kept, found_any, any_reverse, chain_begins, no_element_above, from_serials, child_is_all, before_is_all, sync_is_all, event_is_all, own_is_all}
-use Rattle.smil_laws.proofs.Unreached.{fresh, absent, about_none, about_no_one, no_press, lone_press, one_press, is_waiter, found_here, outside_all}
+use Rattle.smil_laws.proofs.LineageParents.{ParentsBefore}
+use Rattle.smil_laws.proofs.ForeignEntries.{is_about, Apart, ReadsApart, active-then, own-then, parent-then, own_held-then, parent_held-then, play_start-then, iteration_start-then, iteration-then, simple-then, interval-then}
+use Rattle.smil_laws.proofs.ReachLaw.{IsOutside, IsMute}
+use Rattle.smil_laws.proofs.ReachClosed.{any_kept, found_any, any_reverse, chain_begins, no_element_above, from_serials, child_is_all, before_is_all, sync_is_all, event_is_all, own_is_all}
+use Rattle.smil_laws.proofs.UnreachedIntervals.{fresh, absent, about_none, about_no_one, no_press, lone_press, one_press, is_waiter, found_here, outside_all}
 use Rattle.smil_laws.specs.Touched.{is_touched, is_touched_from, is_touched_through, is_touched_by, GivesSame}
 
 -- ---- one entry on an element of which the element reads nothing

@@ -11,10 +11,10 @@ use Rattle.smil_model.specs.document.Document.{is_element, lineage, is_within, t
 use Rattle.smil_model.specs.reach.Reach.{shares_parent}
 use Rattle.smil_model.specs.shown.Views.{is_sibling, sets_off_sibling, begins_next}
 use Rattle.smil_laws.specs.Locality.{ParentsBefore}
-use Rattle.smil_laws.proofs.Lineages.{upwards-rest, upwards-head}
-use Rattle.smil_laws.proofs.Foreign.{is_about, Apart}
-use Rattle.smil_laws.proofs.Aside.{each_filter}
-use Rattle.smil_laws.proofs.Below.{found_any}
+use Rattle.smil_laws.proofs.LineageParents.{upwards-rest, upwards-head}
+use Rattle.smil_laws.proofs.ForeignEntries.{is_about, Apart}
+use Rattle.smil_laws.proofs.AsideDocuments.{each_filter}
+use Rattle.smil_laws.proofs.DescendantChains.{found_any}
 use Rattle.smil_laws.specs.Seen.{starts}
 
 -- what the tail of a list has, the list has

@@ -17,12 +17,12 @@ use Rattle.smil_model.specs.interval.Current.{current_interval}
 use Rattle.smil_model.specs.reach.Reach.{shares_parent, subject_of}
 use Rattle.smil_model.specs.shown.Views.{view_facts, shows_under, is_frozen_in, view_by, time_ancestors}
 use Rattle.smil_laws.specs.Locality.{ParentsBefore}
-use Rattle.smil_laws.proofs.Lineages.{upwards-head}
-use Rattle.smil_laws.proofs.Aside.{each_drop}
-use Rattle.smil_laws.proofs.Below.{no_chain}
-use Rattle.smil_laws.proofs.Foreign.{is_about}
-use Rattle.smil_laws.proofs.Members.{holds, held_reverse, found_held}
-use Rattle.smil_laws.proofs.Unreached.{about_none, about_no_one, absent_up, absent_reverse}
+use Rattle.smil_laws.proofs.LineageParents.{upwards-head}
+use Rattle.smil_laws.proofs.AsideDocuments.{each_drop}
+use Rattle.smil_laws.proofs.DescendantChains.{no_chain}
+use Rattle.smil_laws.proofs.ForeignEntries.{is_about}
+use Rattle.smil_laws.proofs.ListMembers.{holds, held_reverse, found_held}
+use Rattle.smil_laws.proofs.UnreachedIntervals.{about_none, about_no_one, absent_up, absent_reverse}
 use Rattle.smil_laws.specs.Seen.{starts, shows_from, any_shows, LeavesViews}
 use Rattle.smil_laws.proofs.ViewsAbove.{Unseen, all_unseen}
 use Rattle.smil_laws.proofs.ViewsStay.{view-then}

@@ -1,8 +1,8 @@
-pub mod Digits
-pub mod Fronts
-pub mod Decimals
-pub mod Words
-pub mod Encoded
-pub mod Pieces
-pub mod Trims
-pub mod Bare
+pub mod DigitSteps
+pub mod TestedFronts
+pub mod DecimalRoundTrip
+pub mod WordFronts
+pub mod Utf8Tests
+pub mod CutPieces
+pub mod TrimmedTexts
+pub mod BareTexts

@@ -32,7 +32,7 @@ pub fn whole(digits: &[u8]) -> Option<u64>
 }
 
 /// The number that 1 to 9 digits write; none for all other texts.
-#[tactic(auto, using(crate::proofs::Digits::short_some, crate::proofs::Digits::short_none))]
+#[tactic(auto, using(crate::proofs::DigitSteps::short_some, crate::proofs::DigitSteps::short_none))]
 pub fn short(digits: &[u8]) -> Option<u32>
     requires { length digits.now ≤ DIGITS }
     ensures number { result ≡ number_of digits.now }

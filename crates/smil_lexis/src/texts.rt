@@ -43,7 +43,7 @@ fn is_bare(text: &[u8]) -> bool
 }
 
 /// The bytes of a text without its backslashes.
-#[tactic(auto, using(crate::proofs::Bare::bare_stays))]
+#[tactic(auto, using(crate::proofs::BareTexts::bare_stays))]
 pub fn unescaped(alloc: Global, text: &[u8]) -> Result<Bytes, AllocError>
     ensures { IfOk result (λ bytes. bytes ≡ unescaped_bytes text.now) }
 {

@@ -30,8 +30,8 @@ use Rattle.smil_live.proofs.AgreedParts.{staying_part, staying_within}
 use Rattle.smil_live.proofs.CountedOrders.{at_least, at_most, free_too_full}
 use Rattle.smil_live.proofs.EditedPresentations.{edited_accepted, edited_appended, edited_state, not_edited}
 use Rattle.smil_shown.proofs.SettledDiaries.{diary_is}
-use Rattle.smil_live.proofs.Logs.{log_parts}
-use Rattle.smil_live.proofs.Outcomes.{clock_from, sought_state}
+use Rattle.smil_live.proofs.LogParts.{log_parts}
+use Rattle.smil_live.proofs.OrderOutcomes.{clock_from, sought_state}
 use Rattle.smil_live.proofs.RebuiltCells.{may_rebuild, rebuilt_way}
 use Rattle.smil_live.proofs.RebuiltParts.{IsPart, front_until}
 

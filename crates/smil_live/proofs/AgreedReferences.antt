@@ -14,7 +14,7 @@ use Rattle.smil_model.specs.document.Defaults.{end_list, items_or}
 use Rattle.smil_model.specs.document.Dependencies.{all_items, is_looped, is_looped_to, is_sync_with, leads_to}
 use Rattle.smil_model.specs.document.Document.{element_named, elements, has_id, has_serial, is_element, is_in_excl, node_at}
 use Rattle.smil_laws.specs.Edited.{KeepsReferences}
-use Rattle.smil_outline.proofs.RoundTrip.{all_front}
+use Rattle.smil_outline.proofs.OutlineRoundTrip.{all_front}
 use Rattle.smil_revision.specs.References.{are_same_marks, is_same_serial, keeps_id, keeps_ids, keeps_loops, keeps_loops_of, keeps_references, loops, serial_named}
 
 -- ---- lists

@@ -10,14 +10,14 @@ use Rattle.smil_model.specs.interval.Current.{current_interval}
 use Rattle.smil_model.specs.reach.Bounds.{reaches}
 use Rattle.smil_model.specs.shown.Orders.{Presentation, course_of, as_of}
 use Rattle.smil_cells.specs.CellsState.{GoesOn, IsSettled, CellsState, WhereTold, fresh, fresh_since, interval_at, reached_since}
-use Rattle.smil_cells.proofs.OnWay.{drops, fresh_through, joined, least_adds_up, most_adds_up, nothing_fresh, nothing_reached, reached_through}
+use Rattle.smil_cells.proofs.SettlingSteps.{drops, fresh_through, joined, least_adds_up, most_adds_up, nothing_fresh, nothing_reached, reached_through}
 use Rattle.smil_live.specs.Counts.{diary_at, interval_by, least_onward, most_onward}
 use Rattle.smil_live.specs.Moves.{IsShownAt, made}
 use Rattle.smil_shown.specs.ViewTable.{ViewLists}
 use Rattle.smil_live.specs.declared.moves.Move.{Move}
 use Rattle.smil_live.specs.declared.moves.Move.TheVariants as move
 use Rattle.smil_shown.proofs.SettledDiaries.{diary_is}
-use Rattle.smil_live.proofs.Resolved.{resolved_is}
+use Rattle.smil_live.proofs.ResolvedHistory.{resolved_is}
 
 -- ---- one standing after another
 

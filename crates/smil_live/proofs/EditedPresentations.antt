@@ -22,11 +22,11 @@ use Rattle.smil_shown.specs.ShownViews.{IsPlaying, views_at}
 use Rattle.smil_live.specs.Moves.{IsReplayed, IsTooFull, edited_to, told_of}
 use Rattle.smil_shown.specs.ViewTable.{ViewLists}
 use Rattle.smil_live.specs.Telling.{is_edit}
-use Rattle.smil_revision.proofs.Copying.{at_there, some_from}
+use Rattle.smil_revision.proofs.EditedCopies.{at_there, some_from}
 use Rattle.smil_live.proofs.EditOrders.{edit_accepted, is_found, state_refused}
-use Rattle.smil_live.proofs.Growth.{is_appended}
-use Rattle.smil_live.proofs.Outcomes.{known}
-use Rattle.smil_live.proofs.Resolved.{has_room, no_room}
+use Rattle.smil_live.proofs.GrowingTexts.{is_appended}
+use Rattle.smil_live.proofs.OrderOutcomes.{known}
+use Rattle.smil_live.proofs.ResolvedHistory.{has_room, no_room}
 
 -- ---- the node that an order names
 

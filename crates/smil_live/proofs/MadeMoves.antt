@@ -13,7 +13,7 @@ use Rattle.smil_shown.specs.ShownViews.{IsPlaying, IsShown, views_at}
 use Rattle.smil_live.specs.Moves.{IsShownAt, told_of}
 use Rattle.smil_shown.specs.ViewTable.{ViewLists}
 use Rattle.smil_shown.specs.Told.{told_between}
-use Rattle.smil_live.proofs.Standings.{views_settled}
+use Rattle.smil_live.proofs.SettledCells.{views_settled}
 
 -- ---- behind a move
 

@@ -10,12 +10,12 @@ use Rattle.smil_model.specs.document.Document.{node_at, serials}
 use Rattle.smil_model.specs.document.Valid.{IsDistinct}
 use Rattle.smil_model.specs.shown.Orders.{changed, view_before, view_eq}
 use Rattle.smil_model.specs.shown.Views.{blank}
-use Rattle.smil_laws.proofs.Lineages.{swap_eqb}
-use Rattle.smil_laws.proofs.Members.{differ_each}
+use Rattle.smil_laws.proofs.LineageParents.{swap_eqb}
+use Rattle.smil_laws.proofs.ListMembers.{differ_each}
 use Rattle.smil_laws.proofs.Lists.{each_at, each_kept}
-use Rattle.smil_tree.proofs.Removed.{distinct_fewer}
+use Rattle.smil_tree.proofs.NodeRemoved.{distinct_fewer}
 use Rattle.smil_shown.specs.ViewTable.{put_in, view_in, has_view, AreOne}
-use Rattle.smil_live.proofs.Through.{same_view}
+use Rattle.smil_live.proofs.AdvanceChanges.{same_view}
 use Rattle.smil_shown.proofs.AllViews.{none_of, one_each}
 use Rattle.smil_shown.proofs.ViewPlaces.{of, untouched, has_put}
 

@@ -6,7 +6,7 @@ use Rattle.std.proofs.lemmas.Bool.{and_parts}
 use Rattle.smil_model.specs.declared.diary.Entry.{Entry}
 use Rattle.smil_model.specs.declared.times.TheConstants.{HORIZON}
 use Rattle.smil_model.specs.diary.Lawful.{is_rising_from}
-use Rattle.smil_model.proofs.Orders.{le_both}
+use Rattle.smil_model.proofs.NumberOrders.{le_both}
 
 -- ---- what a binary search parts
 

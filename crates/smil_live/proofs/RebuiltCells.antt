@@ -10,12 +10,12 @@ use Rattle.smil_model.specs.declared.times.TheConstants.{HORIZON}
 use Rattle.smil_model.specs.document.Document.{Document}
 use Rattle.smil_model.specs.document.Valid.{IsValid}
 use Rattle.smil_model.specs.shown.Orders.{IsState, Presentation}
-use Rattle.smil_model.proofs.Orders.{le_from}
+use Rattle.smil_model.proofs.NumberOrders.{le_from}
 use Rattle.smil_laws.specs.Cut.{logged}
 use Rattle.smil_cells.specs.CellsState.{IsRebuilt, MayRebuild, CellsState}
 use Rattle.smil_live.specs.Moves.{IsReplayed, IsUnderWay, edited_to, replay_of}
 use Rattle.smil_live.proofs.RebuiltParts.{IsPart}
-use Rattle.smil_live.proofs.Replays.{fits, under_way}
+use Rattle.smil_live.proofs.ReplayedLogs.{fits, under_way}
 
 pub may_rebuild : (s : CellsState) (d : Document) (len bound : ℕ) → IsValid d → len ≤ length s.diary → s.marked ≡ None → IsPart d.nodes s.presentation.log (take len s.diary) bound → MayRebuild s d len
 may_rebuild s d len bound valid within unmarked part = record {

@@ -18,16 +18,16 @@ use Rattle.smil_model.specs.reach.Bounds.{reaches}
 use Rattle.smil_model.specs.reach.Reach.{key_of, logged_key, logged_subject, reach, reach_by, subject_of}
 use Rattle.smil_model.specs.shown.Orders.{Presentation, course_of}
 use Rattle.smil_laws.specs.Cut.{IsNamedBelow, NamesBelow}
-use Rattle.smil_laws.proofs.Further.{is_past}
-use Rattle.smil_laws.proofs.Cutting.{names_weaker}
-use Rattle.smil_laws.proofs.Longer.{get_longer}
+use Rattle.smil_laws.proofs.CourseFurther.{is_past}
+use Rattle.smil_laws.proofs.CourseCut.{names_weaker}
+use Rattle.smil_laws.proofs.LongerLogs.{get_longer}
 use Rattle.smil_cells.specs.CellsState.{GoesOn, IsSettled, CellsState, WhereTold, any_interval, fresh, fresh_since, interval_at, is_same_interval, reached_since}
-use Rattle.smil_cells.proofs.OnWay.{drops}
+use Rattle.smil_cells.proofs.SettlingSteps.{drops}
 use Rattle.smil_live.specs.Counts.{interval_by, least_loading, reached_behind}
 use Rattle.smil_live.specs.Moves.{IsReplayed}
 use Rattle.smil_live.proofs.CellCounts.{IsCounted, counted_by}
 use Rattle.smil_shown.proofs.SettledDiaries.{diary_is, has_ended}
-use Rattle.smil_live.proofs.Resolved.{resolved_is}
+use Rattle.smil_live.proofs.ResolvedHistory.{resolved_is}
 
 -- ---- a longer log
 

@@ -13,11 +13,11 @@ use Rattle.smil_model.specs.diary.Logs.{moments_rise}
 use Rattle.smil_model.specs.happening.Keys.{DueChange, coming, first_coming, is_due}
 use Rattle.smil_model.specs.happening.Groups.{group}
 use Rattle.smil_model.specs.happening.Resolution.{Course, Progress, outset, history_at, after_quiet, after_settling, after_coming, next_step, after_steps, Reaches}
-use Rattle.smil_model.proofs.Orders.{le_exact}
+use Rattle.smil_model.proofs.NumberOrders.{le_exact}
 use Rattle.smil_laws.specs.Cut.{is_logged, logged}
-use Rattle.smil_laws.proofs.Cutting.{next_on, logged_append}
+use Rattle.smil_laws.proofs.CourseCut.{next_on, logged_append}
 use Rattle.smil_laws.proofs.Lists.{take-suc_at}
-use Rattle.smil_live.proofs.Full.{AreFrom, rising_behind, rising_from}
+use Rattle.smil_live.proofs.FullDiaries.{AreFrom, rising_behind, rising_from}
 
 -- the moments at which a diary hears log entries
 abbrev pub heard_moments : List Entry → List ℤ

@@ -17,17 +17,17 @@ use Rattle.smil_model.specs.diary.Diary.{is_step, last_moment}
 use Rattle.smil_model.specs.diary.Logs.{is_log, is_logged_by, moments_rise}
 use Rattle.smil_model.specs.happening.Resolution.{Course, Progress, outset, Reaches, diary_of}
 use Rattle.smil_model.specs.reach.Bounds.{through_begin}
-use Rattle.smil_model.proofs.Orders.{is_le, le_both}
+use Rattle.smil_model.proofs.NumberOrders.{is_le, le_both}
 use Rattle.smil_laws.specs.Agreement.{course_on}
 use Rattle.smil_laws.specs.Courses.{heard_by}
 use Rattle.smil_laws.specs.Cut.{is_logged, logged}
-use Rattle.smil_laws.proofs.Back.{reaches_back}
-use Rattle.smil_laws.proofs.Cutting.{reaches_at_last}
-use Rattle.smil_laws.proofs.Further.{is_past}
-use Rattle.smil_rounds.proofs.Moments.{is_late}
+use Rattle.smil_laws.proofs.CourseEarlier.{reaches_back}
+use Rattle.smil_laws.proofs.CourseCut.{reaches_at_last}
+use Rattle.smil_laws.proofs.CourseFurther.{is_past}
+use Rattle.smil_rounds.proofs.MomentEntries.{is_late}
 use Rattle.smil_shown.proofs.PresentMoments.{from_zero}
 use Rattle.smil_shown.proofs.SettledDiaries.{comes_to}
-use Rattle.smil_live.proofs.Logs.{log_parts, no_later}
+use Rattle.smil_live.proofs.LogParts.{log_parts, no_later}
 use Rattle.smil_live.proofs.RebuiltLogs.{has_heard, heard_moments, log_moments}
 
 -- ---- logs

@@ -12,18 +12,18 @@ use Rattle.smil_model.specs.document.Valid.{IsNumberedTree}
 use Rattle.smil_model.specs.diary.Clocks.{until}
 use Rattle.smil_model.specs.diary.Logs.{is_log, is_logged_by, moments_rise}
 use Rattle.smil_model.specs.happening.Resolution.{Course, Progress, outset, next_step, after_steps, Reaches, diary_of}
-use Rattle.smil_model.proofs.Orders.{le_total}
+use Rattle.smil_model.proofs.NumberOrders.{le_total}
 use Rattle.smil_laws.specs.Agreement.{course_on}
 use Rattle.smil_laws.specs.Courses.{heard_by}
 use Rattle.smil_laws.specs.Cut.{logged}
-use Rattle.smil_laws.proofs.Back.{reaches_back}
-use Rattle.smil_laws.proofs.Cutting.{reaches_when_cut}
-use Rattle.smil_laws.proofs.Decided.{then, stays}
-use Rattle.smil_laws.proofs.Further.{is_past, reaches_further}
-use Rattle.smil_laws.proofs.Through.{more_added}
+use Rattle.smil_laws.proofs.CourseEarlier.{reaches_back}
+use Rattle.smil_laws.proofs.CourseCut.{reaches_when_cut}
+use Rattle.smil_laws.proofs.ResolutionEnds.{then, stays}
+use Rattle.smil_laws.proofs.CourseFurther.{is_past, reaches_further}
+use Rattle.smil_laws.proofs.DiaryThroughBegin.{more_added}
 use Rattle.smil_shown.proofs.SettledDiaries.{comes_to, has_ended}
-use Rattle.smil_live.proofs.Full.{AreFrom, from_sooner, full_by_first, rising_from}
-use Rattle.smil_live.proofs.Logs.{log_parts}
+use Rattle.smil_live.proofs.FullDiaries.{AreFrom, from_sooner, full_by_first, rising_from}
+use Rattle.smil_live.proofs.LogParts.{log_parts}
 use Rattle.smil_live.proofs.RebuiltParts.{front_until, log_until, none_passes}
 
 -- what a course comes to begins its diary

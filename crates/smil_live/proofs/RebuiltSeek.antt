@@ -18,11 +18,11 @@ use Rattle.smil_laws.specs.Cut.{logged}
 use Rattle.smil_cells.specs.CellsState.{GoesOn, IsRebuilt, IsSettled, MayRebuild, CellsState, WhereTold, reached_since}
 use Rattle.smil_live.specs.Moves.{IsReplayed, IsTooFull, sought_of}
 use Rattle.smil_shown.proofs.PresentMoments.{within_horizon}
-use Rattle.smil_live.proofs.Logs.{log_parts}
+use Rattle.smil_live.proofs.LogParts.{log_parts}
 use Rattle.smil_live.proofs.RebuiltCells.{may_rebuild, not_later}
 use Rattle.smil_live.proofs.RebuiltParts.{IsPart, front_until, log_until, part_until}
 use Rattle.smil_live.proofs.RebuiltSame.{same_until}
-use Rattle.smil_live.proofs.Replays.{not_below, refused_as}
+use Rattle.smil_live.proofs.ReplayedLogs.{not_below, refused_as}
 
 pub back_by : (to : ℤ) (now : ℕ) → pos 0 ≤ℤ to → to ≤ℤ pos now → nat_abs to ≤ now
 back_by (pos k) now from back = omega (arith, ints, back)

@@ -17,7 +17,7 @@ use Rattle.smil_report.specs.Records.{as_records, record_line}
 use Rattle.smil_report.specs.Tellings.{Tells, as_text, change_told, changes_told, gone_told, is_telling, nodes_gone, order_told}
 use Rattle.smil_grammar.specs.Formats.{formats}
 use Rattle.smil_laws.proofs.Lists.{each_kept}
-use Rattle.smil_tree.proofs.Spans.{all_known}
+use Rattle.smil_tree.proofs.NodeSpans.{all_known}
 
 -- ---- what is told as text is the answer
 

@@ -17,7 +17,7 @@ use Rattle.smil_past.specs.Played.{past_interval}
 use Rattle.smil_shown.specs.ShownViews.{IsPlaying}
 use Rattle.smil_shown.specs.ViewTable.{ViewLists}
 use Rattle.smil_shown.proofs.AllViews.{element_at, of_elements}
-use Rattle.smil_live.proofs.Resolved.{resolved_is}
+use Rattle.smil_live.proofs.ResolvedHistory.{resolved_is}
 use Rattle.smil_live.proofs.ToldAnswers.{kept_views}
 
 abbrev serials_of : List View → List ℕ

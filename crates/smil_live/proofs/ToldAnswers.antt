@@ -18,7 +18,7 @@ use Rattle.smil_model.specs.shown.Lines.{entry_line, name_of, now_line, outline_
 use Rattle.smil_model.specs.shown.Orders.{Formats, Presentation, at_moment, resolved_history, views_of}
 use Rattle.smil_model.specs.shown.Sandwich.{layers, stack_of}
 use Rattle.smil_model.specs.document.Words.{Begins}
-use Rattle.smil_past.proofs.References.{kept_known as kept_found}
+use Rattle.smil_past.proofs.ItemReferences.{kept_known as kept_found}
 use Rattle.smil_report.specs.Tellings.{as_text}
 use Rattle.smil_cells.specs.CellsState.{IsSettled, CellsState, history_of}
 use Rattle.smil_shown.specs.ShownViews.{IsPlaying}
@@ -28,8 +28,8 @@ use Rattle.smil_live.specs.Telling.{element_named, layers_text}
 use Rattle.smil_shown.proofs.AllViews.{of_elements}
 use Rattle.smil_shown.proofs.SetLayers.{among}
 use Rattle.smil_shown.proofs.LineTexts.{begins_more}
-use Rattle.smil_live.proofs.Outcomes.{found_named, known, none_gone}
-use Rattle.smil_live.proofs.Resolved.{resolved_is, views_are}
+use Rattle.smil_live.proofs.OrderOutcomes.{found_named, known, none_gone}
+use Rattle.smil_live.proofs.ResolvedHistory.{resolved_is, views_are}
 
 -- ---- the views
 

@@ -15,7 +15,7 @@ use Rattle.smil_model.specs.shown.Answers.{name_in}
 use Rattle.smil_model.specs.shown.Orders.{IsState, changed, view_eq}
 use Rattle.smil_report.specs.Tellings.{Begins, Telling}
 use Rattle.smil_report.proofs.Growing.{begins_by, begins_itself}
-use Rattle.smil_instances.proofs.Siblings.{distinct_elements}
+use Rattle.smil_instances.proofs.SiblingBefore.{distinct_elements}
 use Rattle.smil_cells.specs.CellsState.{GoesOn, CellsState}
 use Rattle.smil_shown.specs.ShownViews.{views_at}
 use Rattle.smil_shown.specs.ViewTable.{ViewLists, differs, has_view, view_in, view_now, with_view}

@@ -25,7 +25,7 @@ pub fn put_outline(tree: &Tree, out: &mut Bytes) -> Result<(), AllocError>
 /// Appends the canonical outline of a document with its serials: a header with the next serial, and
 /// a line with its serial for each node in document order. Where memory is refused, some of the
 /// lines stand in `out`.
-#[tactic(auto, using(smil_model::proofs::Growing::begins_on))]
+#[tactic(auto, using(smil_model::proofs::GrowingTexts::begins_on))]
 pub fn put_saved_outline(tree: &Tree, out: &mut Bytes) -> Result<(), AllocError>
     requires { IsValid tree.now }
     ensures ok { OnOk result (out.new ≡ out.old ++ saved_text tree.now) }

@@ -1,6 +1,6 @@
-pub mod Orders
-pub mod Growing
-pub mod Rising
+pub mod NumberOrders
+pub mod GrowingTexts
+pub mod RisingLists
 pub mod SerialTables
 pub mod PlaceSets
 pub mod FirstPlaces

@@ -58,7 +58,7 @@ impl Model for Builder {
 }
 
 // The kind of a node line of this shape behind so many spaces.
-#[tactic(auto, using(crate::proofs::Columns::kind_is_near))]
+#[tactic(auto, using(crate::proofs::FaultColumns::kind_is_near))]
 fn kind(spaces: usize, shape: &Shape<'_>) -> Result<Kind, Refusal>
     requires { spaces ≤ LINE_BYTES }
     ensures reading { result ≡ in_line spaces (kind_of_shape (Some shape.now)) }

@@ -31,7 +31,7 @@ fn closed(levels: &[(u32, Kind)], serial: u32) -> usize
 
 // The depth of a node below this parent, which is on the branch, or of the root: the nodes below
 // the parent are closed.
-#[tactic(auto, using(crate::proofs::Depths::left_open))]
+#[tactic(auto, using(crate::proofs::OpenBranch::left_open))]
 fn depth_below(branch: &Branch, parent: u32) -> usize
     ensures within { result ≤ length branch.now }
     ensures kept { upwards (take result branch.now) ≡ open_from parent (upwards branch.now) }
@@ -57,7 +57,7 @@ fn put_line(node: &Node, depth: usize, saved: bool, out: &mut Bytes) -> Result<(
 /// Appends the line of the next node of an outline, in document order, ended by a line feed. The
 /// node goes on the branch below its parent. Where memory is refused, some of the line may stand in
 /// `out`.
-#[tactic(auto, using(smil_model::proofs::Growing::begins_on))]
+#[tactic(auto, using(smil_model::proofs::GrowingTexts::begins_on))]
 pub fn put_next(
     node: &Node,
     branch: &mut Branch,
@@ -81,7 +81,7 @@ pub fn put_next(
 }
 
 // Appends the lines of all nodes.
-#[tactic(auto, using(smil_model::proofs::Growing::begins_on))]
+#[tactic(auto, using(smil_model::proofs::GrowingTexts::begins_on))]
 fn put_nodes(doc: &Doc, saved: bool, out: &mut Bytes) -> Result<(), AllocError>
     requires { IsValid doc.now }
     ensures ok { OnOk result (out.new ≡ out.old ++ nodes_text saved doc.now.nodes) }
@@ -107,7 +107,7 @@ pub fn write_doc(doc: &Doc, out: &mut Bytes) -> Result<(), AllocError>
 }
 
 // Appends the header and the lines of all nodes.
-#[tactic(auto, using(smil_model::proofs::Growing::begins_on))]
+#[tactic(auto, using(smil_model::proofs::GrowingTexts::begins_on))]
 fn put_saved(doc: &Doc, out: &mut Bytes) -> Result<(), AllocError>
     requires { IsValid doc.now }
     ensures ok { OnOk result (out.new ≡ out.old ++ saved_text doc.now) }

@@ -1,5 +1,5 @@
-mod Ranges
-mod Bytes
+mod ListRanges
+mod FirstLineFeed
 mod ScanLemmas
 mod ReadLemmas
 pub mod LineLemmas

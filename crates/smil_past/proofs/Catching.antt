@@ -14,7 +14,7 @@ use Rattle.smil_past.specs.declared.chronicle.Chronicle.{Chronicle}
 use Rattle.smil_past.specs.Past.{IsPossible, MayFollow, unmarked}
 use Rattle.smil_past.specs.Readings.{Holds}
 use Rattle.smil_past.specs.Chronicle.{Lags, Tells, TellsNothing}
-use Rattle.smil_past.proofs.Fronts.{follows_at, possible_before}
+use Rattle.smil_past.proofs.FirstEntries.{follows_at, possible_before}
 
 pub names_front : (place len : ℕ) (diary : List Entry) → NamesBelow place diary → NamesBelow place (take len diary)
 names_front place len diary named =

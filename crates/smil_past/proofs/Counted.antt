@@ -15,10 +15,10 @@ use Rattle.smil_model.specs.diary.Clocks.{outer}
 use Rattle.smil_model.specs.diary.Plays.{PlayEdge, FinishedInterval, Plays, finish_with, play_after, is_birth_under, plays}
 use Rattle.smil_model.specs.shown.Views.{document_value}
 use Rattle.smil_laws.proofs.LawfulSteps.{active_push}
-use Rattle.smil_diary.proofs.Choices.{chosen}
-use Rattle.smil_stretch.proofs.Diaries.{lawful_last}
+use Rattle.smil_diary.proofs.TestChoices.{chosen}
+use Rattle.smil_stretch.proofs.LawfulDiaries.{lawful_last}
 use Rattle.smil_past.specs.Followed.{finished_after, finished_interval, has_begun_after, interval_finished_by, is_paused_after, number_after, one_more}
-use Rattle.smil_past.proofs.Shown.{follow, no_plays}
+use Rattle.smil_past.proofs.PlaysAfterEntry.{follow, no_plays}
 
 -- ---- pauses
 

@@ -7,7 +7,7 @@ use Rattle.smil_model.specs.diary.Diary.{History, up_to}
 use Rattle.smil_model.specs.happening.Queue.{is_playing_by, queue_of}
 use Rattle.smil_excl.specs.QueueState.{QueueState, line_in}
 use Rattle.smil_past.specs.Queues.{classes_in, emptied, kept_queues, lines, placed, playing_line, playing_lines}
-use Rattle.smil_past.proofs.Playing.{none_line}
+use Rattle.smil_past.proofs.PlayingChildren.{none_line}
 
 emptied_lines : (nodes : List Node) (queue : ℕ → List ℕ) (ns : List Node) → map emptied (map (λ (n : Node). line_in nodes n.serial (queue n.serial)) ns) ≡ map (λ (n : Node). line_in nodes n.serial []) ns
 emptied_lines nodes queue [] = refl

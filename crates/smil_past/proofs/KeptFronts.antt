@@ -11,7 +11,7 @@ use Rattle.smil_model.specs.document.Document.{Document}
 use Rattle.smil_laws.specs.Near.{HasNear}
 use Rattle.smil_laws.specs.Cut.{NamesBelow}
 use Rattle.smil_tree.proofs.KinLists.{each_left}
-use Rattle.smil_stretch.proofs.Diaries.{lawful_first}
+use Rattle.smil_stretch.proofs.LawfulDiaries.{lawful_first}
 use Rattle.smil_instance_rows.specs.Notes.{MarkedRows}
 use Rattle.smil_instances.specs.Intake.{history_of}
 use Rattle.smil_past.specs.declared.chronicle.Chronicle.{Chronicle}
@@ -20,7 +20,7 @@ use Rattle.smil_past.specs.Past.{IsPossible}
 use Rattle.smil_past.specs.Readings.{Holds}
 use Rattle.smil_past.specs.Chronicle.{Lags, Tells}
 use Rattle.smil_past.specs.Kept.{AreKept, AreWithin, IsBroughtUp, IsKept, KeepsPast}
-use Rattle.smil_past.proofs.Grown.{holds_longer, holds_shorter}
+use Rattle.smil_past.proofs.LogGrown.{holds_longer, holds_shorter}
 use Rattle.smil_past.proofs.Catching.{names_front}
 use Rattle.smil_past.proofs.Marks.{backs_none}
 

@@ -16,7 +16,7 @@ use Rattle.smil_past.specs.declared.readings.Readings.{Readings}
 use Rattle.smil_past.specs.Past.{IsPossible, MarkedHistory, at_mark}
 use Rattle.smil_past.specs.Readings.{AreReadingsOf, Holds, MayGoBack}
 use Rattle.smil_past.specs.Chronicle.{BacksUp, HoldsAt, place_after}
-use Rattle.smil_past.proofs.Grown.{holds_shorter}
+use Rattle.smil_past.proofs.LogGrown.{holds_shorter}
 
 -- ---- one entry more
 

@@ -16,7 +16,7 @@ pub const REFUSAL_BYTES: usize = 64;
 pub const LAST_LINE_BYTES: usize = 80;
 
 // Writes a refusal's word, its column where it has one, and the line feed.
-#[tactic(auto, using(crate::proofs::Places::drop_later))]
+#[tactic(auto, using(crate::proofs::BufferPlaces::drop_later))]
 fn put_cause(buf: &mut [u8], at: usize, refusal: Refusal) -> usize
     requires { at + 34 ≤ length buf.old }
     ensures place { result ≡ at + length (line_of (cause_words refusal)) }
@@ -37,7 +37,7 @@ fn put_cause(buf: &mut [u8], at: usize, refusal: Refusal) -> usize
 /// Writes the line of a refused order, `! LINE WORD` and ` COLUMN` where the refusal has one, at
 /// the front of the buffer, and gives its length. `line` is the number of the line where the fault
 /// stands. The bytes behind it stay as they were.
-#[tactic(auto, using(crate::proofs::Places::drop_later))]
+#[tactic(auto, using(crate::proofs::BufferPlaces::drop_later))]
 pub fn put_refusal(buf: &mut [u8; REFUSAL_BYTES], line: u32, refusal: &Refusal) -> usize
     ensures len { result ≡ length (refusal_line line refusal.now) }
     ensures within { result ≤ REFUSAL_BYTES }
@@ -51,7 +51,7 @@ pub fn put_refusal(buf: &mut [u8; REFUSAL_BYTES], line: u32, refusal: &Refusal) 
 }
 
 // Writes `ok LINE NAME` at the front of a buffer, and gives the place behind it.
-#[tactic(auto, using(crate::proofs::Places::drop_later))]
+#[tactic(auto, using(crate::proofs::BufferPlaces::drop_later))]
 fn put_accepted(buf: &mut [u8], line: u32, name: &[u8]) -> usize
     requires { 14 + length name.now ≤ length buf.old }
     ensures place { result ≡ 4 + length (decimal line) + length name.now }
@@ -68,7 +68,7 @@ fn put_accepted(buf: &mut [u8], line: u32, name: &[u8]) -> usize
 /// Writes the last line of an accepted order, `ok LINE NAME NOW`, at the front of the buffer, and
 /// gives its length: the number of the order's first line, the presentation's name, of at most 32
 /// bytes, and its moment, in milliseconds of document time. The bytes behind it stay as they were.
-#[tactic(auto, using(crate::proofs::Places::drop_later))]
+#[tactic(auto, using(crate::proofs::BufferPlaces::drop_later))]
 pub fn put_ok(buf: &mut [u8; LAST_LINE_BYTES], line: u32, name: &[u8], now: i64) -> usize
     requires { length name.now ≤ NAME_BYTES }
     ensures len { result ≡ length (ok_line line name.now now) }
@@ -85,7 +85,7 @@ pub fn put_ok(buf: &mut [u8; LAST_LINE_BYTES], line: u32, name: &[u8], now: i64)
 /// Writes `ok LINE NAME closed` at the front of the buffer, and gives its length: the number of the
 /// order's line, and the name, of at most 32 bytes, of the presentation that it closed. The bytes
 /// behind it stay as they were.
-#[tactic(auto, using(crate::proofs::Places::drop_later))]
+#[tactic(auto, using(crate::proofs::BufferPlaces::drop_later))]
 pub fn put_closed(buf: &mut [u8; LAST_LINE_BYTES], line: u32, name: &[u8]) -> usize
     requires { length name.now ≤ NAME_BYTES }
     ensures len { result ≡ length (closed_line line name.now) }
@@ -99,7 +99,7 @@ pub fn put_closed(buf: &mut [u8; LAST_LINE_BYTES], line: u32, name: &[u8]) -> us
 
 /// Writes `ok LINE NAME`, the last line of a load that was only read, at the front of the buffer,
 /// and gives its length. The name has at most 32 bytes. The bytes behind it stay as they were.
-#[tactic(auto, using(crate::proofs::Places::drop_later))]
+#[tactic(auto, using(crate::proofs::BufferPlaces::drop_later))]
 pub fn put_checked(buf: &mut [u8; LAST_LINE_BYTES], line: u32, name: &[u8]) -> usize
     requires { length name.now ≤ NAME_BYTES }
     ensures len { result ≡ length (checked_line line name.now) }

@@ -86,7 +86,7 @@ fn put_serial(out: &mut Bytes, serial: u32) -> Result<(), AllocError>
 }
 
 // Appends a text between quotes.
-#[tactic(auto, using(smil_model::proofs::Growing::begins_on))]
+#[tactic(auto, using(smil_model::proofs::GrowingTexts::begins_on))]
 fn put_quoted(out: &mut Bytes, text: &[u8]) -> Result<(), AllocError>
     ensures ok { OnOk result (out.new ≡ out.old ++ quoted text.now) }
     ensures err { OnErr result (Begins out.old out.new) }
@@ -127,7 +127,7 @@ fn put_word(out: &mut Bytes, word: &Word) -> Result<(), AllocError>
 }
 
 // Appends the words, with a space between them, and a line feed.
-#[tactic(auto, using(smil_model::proofs::Growing::begins_on))]
+#[tactic(auto, using(smil_model::proofs::GrowingTexts::begins_on))]
 fn put_words(out: &mut Bytes, words: &[Word]) -> Result<(), AllocError>
     ensures ok { OnOk result (out.new ≡ out.old ++ line_of (map word_text words.now)) }
     ensures err { OnErr result (Begins out.old out.new) }

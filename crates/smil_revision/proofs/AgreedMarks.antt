@@ -12,9 +12,9 @@ use Rattle.smil_model.specs.document.Defaults.{begin_list, end_list, items_of, i
 use Rattle.smil_model.specs.document.Dependencies.{is_looped}
 use Rattle.smil_model.specs.document.Document.{elements, is_element, is_in_excl, node_at, serial_of}
 use Rattle.smil_model.specs.document.Valid.{IsDistinct}
-use Rattle.smil_tree.proofs.Changed.{serial_of as own_serial}
+use Rattle.smil_tree.proofs.AttributesChanged.{serial_of as own_serial}
 use Rattle.smil_graph.specs.Graph.{is_looped_item, looped_at, looped_of}
-use Rattle.smil_graph.proofs.Answered.{element_at}
+use Rattle.smil_graph.proofs.GraphAnswers.{element_at}
 use Rattle.smil_instances.specs.Spread.{only_element}
 use Rattle.smil_revision.specs.ItemCounts.{counts_at, item_counts}
 use Rattle.smil_revision.specs.References.{loops}

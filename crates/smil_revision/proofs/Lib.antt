@@ -1,6 +1,6 @@
 pub mod AgreedMarks
 pub mod AlikeIds
-pub mod Copying
-pub mod Placing
-pub mod Reading
+pub mod EditedCopies
+pub mod LineFaults
+pub mod OrderReadings
 pub mod TreeFaults

@@ -1,3 +1,3 @@
-pub mod Above
-pub mod Places
-pub mod Sorted
+pub mod LayerOrder
+pub mod LayerPlaces
+pub mod LayersSorted

@@ -1,2 +1,2 @@
-pub mod Names
-pub mod Serials
+pub mod EventNames
+pub mod SerialNumbers

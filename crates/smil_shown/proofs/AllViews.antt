@@ -10,14 +10,14 @@ use Rattle.smil_model.specs.declared.view.View.{View}
 use Rattle.smil_model.specs.document.Document.{Document, elements, node_at, serials}
 use Rattle.smil_model.specs.document.Valid.{IsDistinct}
 use Rattle.smil_model.proofs.FirstPlaces.{position_cons}
-use Rattle.smil_tree.proofs.Families.{node_of_place}
-use Rattle.smil_tree.proofs.Kids.{serial_at}
-use Rattle.smil_instances.proofs.Siblings.{distinct_elements}
+use Rattle.smil_tree.proofs.NodeFamilies.{node_of_place}
+use Rattle.smil_tree.proofs.ChildSpans.{serial_at}
+use Rattle.smil_instances.proofs.SiblingBefore.{distinct_elements}
 use Rattle.smil_cells.specs.CellsState.{CellsState}
 use Rattle.smil_shown.specs.Sets.{AreOfElements}
 use Rattle.smil_shown.specs.ShownViews.{views_at}
 use Rattle.smil_shown.specs.ViewTable.{AreOf, AreOne, has_view, view_now}
-use Rattle.smil_shown.proofs.Apart.{views_known}
+use Rattle.smil_shown.proofs.LayersApart.{views_known}
 
 -- an element that stands at a place among all, with this serial
 pub record IsElementAt (nodes : List Node) (i s : ℕ) : Type 0 where

@@ -1,5 +1,5 @@
 pub mod AllViews
-pub mod Apart
+pub mod LayersApart
 pub mod LineTexts
 pub mod LinesTold
 pub mod NamesPut

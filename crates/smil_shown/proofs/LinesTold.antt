@@ -20,7 +20,7 @@ use Rattle.smil_model.specs.document.Valid.{kind_of}
 use Rattle.smil_model.specs.shown.Answers.{name_in}
 use Rattle.smil_model.specs.shown.Lines.{name_by, name_of}
 use Rattle.smil_model.specs.shown.Orders.{changed, gone_from, view_before, view_eq}
-use Rattle.smil_laws.proofs.Aside.{find_true}
+use Rattle.smil_laws.proofs.AsideDocuments.{find_true}
 use Rattle.smil_report.specs.Tellings.{Telling, change_told}
 use Rattle.smil_shown.specs.Told.{told_between, told_gone, views_told}
 

@@ -13,14 +13,14 @@ use Rattle.smil_model.specs.interval.Current.{current_interval, in_table, interv
 use Rattle.smil_model.specs.declared.times.TheConstants.{HORIZON}
 use Rattle.smil_model.specs.Times.{IsMoment}
 use Rattle.smil_model.specs.shown.Orders.{IsState, Presentation, course_of}
-use Rattle.smil_model.proofs.Orders.{le_from}
+use Rattle.smil_model.proofs.NumberOrders.{le_from}
 use Rattle.smil_laws.specs.Near.{AllNear, IsIntervalNear}
-use Rattle.smil_laws.proofs.Further.{is_past}
+use Rattle.smil_laws.proofs.CourseFurther.{is_past}
 use Rattle.smil_laws.proofs.NearIntervals.{interval_near}
 use Rattle.smil_past.specs.Past.{MarkedHistory, IsPresent}
 use Rattle.smil_past.specs.Past as past_of
 use Rattle.smil_cells.specs.CellsState.{CellsState, IsSettled, history_of}
-use Rattle.smil_rounds.proofs.Moments.{is_late}
+use Rattle.smil_rounds.proofs.MomentEntries.{is_late}
 use Rattle.smil_shown.proofs.SettledDiaries.{has_ended}
 
 pub from_zero : (n : ℕ) → pos 0 ≤ℤ pos n

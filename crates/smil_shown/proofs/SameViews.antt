@@ -7,7 +7,7 @@ use Rattle.smil_model.specs.declared.view.Shown.TheVariants as shown
 use Rattle.smil_model.specs.declared.view.State.{State}
 use Rattle.smil_model.specs.declared.view.State.TheVariants as state
 use Rattle.smil_model.specs.declared.view.View.{View}
-use Rattle.smil_model.proofs.Orders.{le_exact}
+use Rattle.smil_model.proofs.NumberOrders.{le_exact}
 use Rattle.smil_model.specs.shown.Orders.{state_code, shown_eq, view_eq}
 
 state_named : ℕ → State

@@ -15,9 +15,9 @@ use Rattle.smil_model.specs.document.Valid.{IsDistinct}
 use Rattle.smil_model.specs.shown.Sandwich.{is_above, layer_in, layers, layers_on, names_on, put_layer, put_name, stack_of}
 use Rattle.smil_model.specs.ListTables.{list_in, list_of, rows}
 use Rattle.smil_sandwich.specs.Stacks.{AreApart, all_applied, applied}
-use Rattle.smil_sandwich.proofs.Sorted.{all_put}
-use Rattle.smil_rounds.proofs.Taking.{elements_few}
-use Rattle.smil_shown.proofs.Apart.{Different, elements_different, front_different, layers_apart, layers_known}
+use Rattle.smil_sandwich.proofs.LayersSorted.{all_put}
+use Rattle.smil_rounds.proofs.RowEvaluated.{elements_few}
+use Rattle.smil_shown.proofs.LayersApart.{Different, elements_different, front_different, layers_apart, layers_known}
 use Rattle.smil_shown.specs.Sets.{AreOfElements, AreSetsAmong, AreSetsOf, AreSettersOf, LayerTable, and_layer}
 use Rattle.smil_laws.proofs.Lists.{each_kept, filter_shorter}
 

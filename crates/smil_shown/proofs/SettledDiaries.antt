@@ -13,7 +13,7 @@ use Rattle.smil_model.specs.happening.Keys.{DueChange, coming, first_coming, is_
 use Rattle.smil_model.specs.happening.Groups.{group}
 use Rattle.smil_model.specs.happening.Resolution.{Course, Progress, outset, history_at, after_quiet, after_settling, after_coming, next_step, after_steps, Reaches, resolved, diary_of}
 use Rattle.smil_laws.specs.Courses.{heard_by}
-use Rattle.smil_laws.proofs.Decided.{Comes, comes, extent}
+use Rattle.smil_laws.proofs.ResolutionEnds.{Comes, comes, extent}
 
 -- no step passes the last moment
 pub comes_within : (c : Course) (k : ℕ) → (after_steps c k outset).moment ≤ c.last

@@ -17,15 +17,15 @@ use Rattle.smil_model.specs.diary.Lawful.{IsLawful}
 use Rattle.smil_model.specs.diary.Plays.{FinishedInterval, PlayEdge, Plays, finish_with, play_after}
 use Rattle.smil_model.specs.shown.Histories.{ShownInterval as ToldInterval, all_plays, told_finished}
 use Rattle.smil_model.specs.shown.Views.{document_value}
-use Rattle.smil_model.proofs.Orders.{le_self, le_from}
+use Rattle.smil_model.proofs.NumberOrders.{le_self, le_from}
 use Rattle.smil_model.specs.shown.Answers.{told_line}
 use Rattle.smil_laws.specs.Near.{AllNear, HasNear}
 use Rattle.smil_stretch.specs.Clocks.{AreClocksOf}
 use Rattle.smil_stretch.specs.declared.clock.NodeClock.{NodeClock}
-use Rattle.smil_stretch.proofs.Moments.{EachUntil, rising_push}
-use Rattle.smil_past.proofs.Clocked.{each_until, fold_with}
+use Rattle.smil_stretch.proofs.ClockAtMoment.{EachUntil, rising_push}
+use Rattle.smil_past.proofs.ClocksAtEntry.{each_until, fold_with}
 use Rattle.smil_past.specs.Followed.{shown_begun_after}
-use Rattle.smil_past.proofs.Shown.{AreUntil, IsMarked, IsUntil, mark_with, until_after, after_same}
+use Rattle.smil_past.proofs.PlaysAfterEntry.{AreUntil, IsMarked, IsUntil, mark_with, until_after, after_same}
 use Rattle.smil_shown.specs.declared.interval_teller.IntervalTeller.{IntervalTeller}
 use Rattle.smil_shown.specs.Histories.{IsTold, begin_after, closed_by, closed_text, finish_line, finished_text, told_begin}
 

@@ -9,7 +9,7 @@ use Rattle.smil_model.proofs.FirstPlaces.{position_cons}
 use Rattle.smil_stretch.specs.declared.clock.NodeClock.{NodeClock}
 use Rattle.smil_stretch.specs.Clocks.{AreClocksOf, node_clock}
 use Rattle.smil_stretch.specs.NodeClocks.{AllFit, ArePlacesOf, Fits, idle_clock, reset_clock}
-use Rattle.smil_stretch.proofs.Idle.{idle_clocks_of}
+use Rattle.smil_stretch.proofs.IdleClocks.{idle_clocks_of}
 
 -- each keeps its place
 reset_place : (s : ℕ) (clocks : List NodeClock) → position (λ (n : NodeClock). n.serial == s) (map reset_clock clocks) ≡ position (λ (n : NodeClock). n.serial == s) clocks

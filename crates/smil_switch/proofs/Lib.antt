@@ -1,6 +1,6 @@
-pub mod Held
-pub mod Levels
-pub mod Spines
-pub mod Pushes
-pub mod Blanked
-pub mod Plain
+pub mod AttributeSteps
+pub mod LastLevels
+pub mod LastBranch
+pub mod PushGrowsTree
+pub mod TestsBlanked
+pub mod PlainLines

@@ -98,7 +98,7 @@ fn has_y(text: &[u8]) -> bool
 
 /// Whether a line without leading spaces begins otherwise than with `switch` and has no `y`. It is
 /// no switch then and has no test, since a `y` stands in the name of each.
-#[tactic(auto, using(crate::proofs::Plain::line_plain))]
+#[tactic(auto, using(crate::proofs::PlainLines::line_plain))]
 pub fn is_plain(text: &[u8]) -> bool
     ensures exact { result ≡ (not (bytes_eq (take 6 text.now) (codes "switch"))
         && not (list_any is_y text.now)) }

@@ -83,7 +83,7 @@ impl Levels {
     }
 
     // Puts the level at this depth, the last one, and one below it.
-    #[tactic(auto, using(crate::proofs::Levels::put_behind))]
+    #[tactic(auto, using(crate::proofs::LastLevels::put_behind))]
     fn put_last(&mut self, depth: usize, beside: Below, below: Below) -> Result<(), AllocError>
         requires { length self.old ≡ depth + 1 }
         ensures ok { OnOk result (self.new ≡ take depth self.old ++ beside ∷ below ∷ []) }
@@ -95,7 +95,7 @@ impl Levels {
     }
 
     // Puts the level at this depth, and the one below it in place of all below.
-    #[tactic(auto, using(crate::proofs::Levels::put_among))]
+    #[tactic(auto, using(crate::proofs::LastLevels::put_among))]
     fn put_among(&mut self, depth: usize, beside: Below, below: Below)
         requires { depth + 1 < length self.old }
         ensures { self.new ≡ take depth self.old ++ beside ∷ below ∷ [] }
@@ -241,7 +241,7 @@ impl Chooser {
     }
 
     // A line behind so many spaces, below a level that is open to it.
-    #[tactic(auto, using(crate::proofs::Plain::plain_kept))]
+    #[tactic(auto, using(crate::proofs::PlainLines::plain_kept))]
     fn choose(
         &mut self,
         depth: usize,

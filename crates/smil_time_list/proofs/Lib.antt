@@ -1,6 +1,6 @@
-pub mod Pieces
-pub mod Subjects
-pub mod Joins
-pub mod Printable
-pub mod Spelled
-pub mod Listed
+pub mod PieceCount
+pub mod ReferenceSubjects
+pub mod ItemJoins
+pub mod PrintableItems
+pub mod ItemRoundTrip
+pub mod ListRoundTrip

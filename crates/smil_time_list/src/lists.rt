@@ -94,7 +94,7 @@ impl Reader {
     }
 
     // The items of a text.
-    #[tactic(auto, using(crate::proofs::Pieces::pieces_count))]
+    #[tactic(auto, using(crate::proofs::PieceCount::pieces_count))]
     fn few(&self, text: &[u8]) -> Result<Items, ListFault>
         ensures { GivesList result (few_items self.now.first text.now) }
     {

@@ -94,7 +94,7 @@ fn put_edge(edge: Edge, out: &mut Bytes) -> Result<(), AllocError>
 }
 
 // Appends the begin or the end of an element.
-#[tactic(auto, using(smil_model::proofs::Growing::begins_on))]
+#[tactic(auto, using(smil_model::proofs::GrowingTexts::begins_on))]
 fn put_sync(who: &Bytes, edge: Edge, offset: i64, out: &mut Bytes) -> Result<(), AllocError>
     requires { IsNear offset }
     ensures ok { OnOk result (out.new ≡ out.old ++ item_text (Sync who.now edge offset)) }
@@ -107,7 +107,7 @@ fn put_sync(who: &Bytes, edge: Edge, offset: i64, out: &mut Bytes) -> Result<(),
 }
 
 // Appends an event.
-#[tactic(auto, using(smil_model::proofs::Growing::begins_on))]
+#[tactic(auto, using(smil_model::proofs::GrowingTexts::begins_on))]
 fn put_event(
     who: &Option<Bytes>,
     name: &Bytes,
@@ -124,7 +124,7 @@ fn put_event(
 }
 
 // Appends an iteration.
-#[tactic(auto, using(smil_model::proofs::Growing::begins_on))]
+#[tactic(auto, using(smil_model::proofs::GrowingTexts::begins_on))]
 fn put_repeat(who: &Option<Bytes>, n: u32, offset: i64, out: &mut Bytes) -> Result<(), AllocError>
     requires { IsNear offset }
     ensures ok { OnOk result (out.new ≡ out.old ++ item_text (Repeat who.now n offset)) }
@@ -139,7 +139,7 @@ fn put_repeat(who: &Option<Bytes>, n: u32, offset: i64, out: &mut Bytes) -> Resu
 }
 
 // Appends an access key.
-#[tactic(auto, using(smil_model::proofs::Growing::begins_on))]
+#[tactic(auto, using(smil_model::proofs::GrowingTexts::begins_on))]
 fn put_call(key: u8, out: &mut Bytes) -> Result<(), AllocError>
     ensures ok { OnOk result (out.new ≡ out.old ++ (ACCESS_KEY.now ++ (key ∷ [])
         ++ codes ")")) }
@@ -151,7 +151,7 @@ fn put_call(key: u8, out: &mut Bytes) -> Result<(), AllocError>
 }
 
 // Appends an access key with its offset.
-#[tactic(auto, using(smil_model::proofs::Growing::begins_on))]
+#[tactic(auto, using(smil_model::proofs::GrowingTexts::begins_on))]
 fn put_key(key: u8, offset: i64, out: &mut Bytes) -> Result<(), AllocError>
     requires { IsNear offset }
     ensures ok { OnOk result (out.new ≡ out.old ++ item_text (Key key offset)) }
@@ -190,7 +190,7 @@ fn put_next(index: usize, item: &Item, out: &mut Bytes) -> Result<(), AllocError
 }
 
 // Appends the items, with `;` between them.
-#[tactic(auto, using(smil_model::proofs::Growing::begins_on))]
+#[tactic(auto, using(smil_model::proofs::GrowingTexts::begins_on))]
 fn put_list(items: &Items, out: &mut Bytes) -> Result<(), AllocError>
     requires { All CanWrite items.now }
     ensures ok { OnOk result (out.new ≡ out.old ++ list_text items.now) }

@@ -30,9 +30,9 @@ use Rattle.smil_top.specs.Session.{Session, presentation_of, with_state}
 use Rattle.smil_top.specs.Summary.{line_count}
 use Rattle.smil_top.specs.Transcript.{TranscriptState, and_then, with_answer}
 use Rattle.smil_top.proofs.CutLines.{is_short-true}
-use Rattle.smil_top.proofs.Evaluated.{counted-ordered, counted-same, counted-unordered, counted-single, evaluated-on}
-use Rattle.smil_top.proofs.Makings.{every, held-at, held-nowhere, in_house, itself, kept-keeps, the_formats, told_least, told_most, turned-keeps}
-use Rattle.smil_top.proofs.Tells.{answer_as, single-made, told-counted}
+use Rattle.smil_top.proofs.EvaluationCounts.{counted-ordered, counted-same, counted-unordered, counted-single, evaluated-on}
+use Rattle.smil_top.proofs.AnswersMade.{every, held-at, held-nowhere, in_house, itself, kept-keeps, the_formats, told_least, told_most, turned-keeps}
+use Rattle.smil_top.proofs.TranscriptStep.{answer_as, single-made, told-counted}
 
 -- ---- by the presentations
 

@@ -12,8 +12,8 @@ use Rattle.smil_top.specs.Recorded.{GoesOn, Says, answered_by, next_single}
 use Rattle.smil_top.specs.Running.{EvaluatesOn, IsOpen, IsRunning, Tells}
 use Rattle.smil_top.specs.Transcript.{TranscriptState, with_answer}
 use Rattle.smil_top.proofs.CutLines.{cut-single}
-use Rattle.smil_top.proofs.Cuts.{count-with_line}
-use Rattle.smil_top.proofs.Evaluated.{evaluated-cut}
+use Rattle.smil_top.proofs.OrderCuts.{count-with_line}
+use Rattle.smil_top.proofs.EvaluationCounts.{evaluated-cut}
 use Rattle.smil_top.proofs.SaidLines.{said-no_blank, said-no_load}
 
 -- a load that is open has lines

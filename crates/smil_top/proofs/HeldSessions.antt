@@ -23,8 +23,8 @@ use Rattle.smil_top.specs.Held.{AreInputLines, IsHeld, input_of}
 use Rattle.smil_top.specs.Serving.{IsWholeTranscript, status_of}
 use Rattle.smil_top.specs.Transcript.{TranscriptState, IsTranscriptBy, transcript_by}
 use Rattle.smil_top.proofs.HouseLemmas.{presentation-held}
-use Rattle.smil_top.proofs.Makings.{itself}
-use Rattle.smil_top.proofs.Transcripts.{is_one}
+use Rattle.smil_top.proofs.AnswersMade.{itself}
+use Rattle.smil_top.proofs.TranscriptAnswers.{is_one}
 
 lines-input : (given : List (List ℕ)) → AreInputLines given → lines (input_of given) ≡ given
 lines-input [] are = refl

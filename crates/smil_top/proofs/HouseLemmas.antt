@@ -6,7 +6,7 @@ use Rattle.smil_model.specs.declared.limits.TheConstants.{PRESENTATIONS}
 use Rattle.smil_model.specs.declared.order.Refusal.TheVariants.{NameTaken, TooManyPresentations}
 use Rattle.smil_model.specs.shown.Orders.{Presentation}
 use Rattle.smil_tree.proofs.KinLists.{lt-first, lt-more}
-use Rattle.smil_outline.proofs.Validity.{bytes_turned}
+use Rattle.smil_outline.proofs.OutlineValid.{bytes_turned}
 use Rattle.smil_live.proofs.AgreedReferences.{bytes_same}
 use Rattle.smil_house.specs.declared.house.NamedPlayer.{NamedPlayer}
 use Rattle.smil_house.specs.House.{place_of, load_refusal, without as house_without}

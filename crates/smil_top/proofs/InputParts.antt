@@ -13,8 +13,8 @@ use Rattle.smil_top.specs.Cut.{NumberedLine, LoadLines, OrderLines, single, load
 use Rattle.smil_top.specs.Answers.{Answer}
 use Rattle.smil_top.specs.Transcript.{Answering, TranscriptState, untold, with_answer, IsTranscriptBy, and_then, transcript_by}
 use Rattle.smil_top.specs.Laws.{OrderAttempt, answer_to, told_by, heard, answer_lines, AtMostOne, SharesFirstOrders, HasFront, IsFrontAndOne}
-use Rattle.smil_top.proofs.Cuts.{cut_of-one_more, if_either, orders-first}
-use Rattle.smil_top.proofs.Transcripts.{text_with, is_told, each_is_told, is_some}
+use Rattle.smil_top.proofs.OrderCuts.{cut_of-one_more, if_either, orders-first}
+use Rattle.smil_top.proofs.TranscriptAnswers.{text_with, is_told, each_is_told, is_some}
 
 -- ---- the lines of a text, and of its front
 

@@ -15,7 +15,7 @@ use Rattle.smil_top.specs.Summary.{session_told, session_orders, told_of}
 use Rattle.smil_top.specs.Words.{is_told}
 use Rattle.smil_top.specs.Serving.{status_by}
 use Rattle.smil_top.specs.Running.{IsAll, IsSummary, Ran, RunsBy, Tells}
-use Rattle.smil_top.proofs.Summed.{one-transcript}
+use Rattle.smil_top.proofs.SessionOfNumber.{one-transcript}
 
 -- a run that was answered to its end
 told-all : (ended : Status) (run : Run) (rest : Option (List ℕ)) (came text : List ℕ) (room : ℕ) → is_told ended ≡ true → RunsBy false ended run rest came text room →

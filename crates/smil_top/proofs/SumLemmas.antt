@@ -21,7 +21,7 @@ use Rattle.smil_top.specs.Answers.{AcceptedOrder, Answer, LoadedDocument, at_lin
 use Rattle.smil_top.specs.Transcript.{TranscriptState, with_answer}
 use Rattle.smil_top.specs.Laws.{with_ease, heard, session_after, answered_from, refuses_as, any_refused_as}
 use Rattle.smil_top.specs.Evaluations.{Bound, least, number_of, loaded_number, said_number, sum_from, is_diary_full}
-use Rattle.smil_top.proofs.Transcripts.{session_with}
+use Rattle.smil_top.proofs.TranscriptAnswers.{session_with}
 
 -- ---- one order more
 

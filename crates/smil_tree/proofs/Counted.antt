@@ -11,7 +11,7 @@ use Rattle.std.proofs.lemmas.Option.{slice_get-get_or, slice_get_within}
 use Rattle.smil_model.specs.declared.document.Node.{Node}
 use Rattle.smil_model.specs.document.Valid.{IsDistinct}
 use Rattle.smil_model.proofs.FirstPlaces.{position_cons}
-use Rattle.smil_laws.proofs.Lineages.{swap_eqb}
+use Rattle.smil_laws.proofs.LineageParents.{swap_eqb}
 use Rattle.smil_tree.proofs.KinLists.{parts}
 use Rattle.smil_tree.specs.Places.{IsCounted, IsIndexed, cut, place_among}
 

@@ -11,11 +11,11 @@ use Rattle.smil_model.specs.document.Edits.{children}
 use Rattle.smil_model.specs.document.Valid.{IsDistinct, IsNumberedTree}
 use Rattle.smil_laws.specs.Locality.{NoParent, ParentsBefore}
 use Rattle.smil_laws.specs.Edited.{IsOrdered}
-use Rattle.smil_laws.proofs.Aside.{each_reverse}
-use Rattle.smil_laws.proofs.Numbered.{all_low}
+use Rattle.smil_laws.proofs.AsideDocuments.{each_reverse}
+use Rattle.smil_laws.proofs.NumberedTrees.{all_low}
 use Rattle.smil_laws.proofs.Lists.{each_weaker}
 use Rattle.smil_tree.specs.Places.{cut}
-use Rattle.smil_tree.proofs.Families.{drop_at}
+use Rattle.smil_tree.proofs.NodeFamilies.{drop_at}
 use Rattle.smil_tree.proofs.KinLists.{filter_none}
 
 -- no node has the next serial as its parent

@@ -9,11 +9,11 @@ use Rattle.std.proofs.lemmas.List.Elements.{filter-append}
 use Rattle.std.proofs.lemmas.Bool.{eq-eqb}
 use Rattle.smil_model.specs.declared.document.Node.{Node}
 use Rattle.smil_model.specs.document.Valid.{IsDistinct}
-use Rattle.smil_laws.proofs.Aside.{each_drop}
-use Rattle.smil_laws.proofs.Lineages.{swap_eqb}
+use Rattle.smil_laws.proofs.AsideDocuments.{each_drop}
+use Rattle.smil_laws.proofs.LineageParents.{swap_eqb}
 use Rattle.smil_laws.proofs.Lists.{each_kept}
-use Rattle.smil_laws.proofs.Members.{differ_each}
-use Rattle.smil_laws.proofs.Ranks.{serials_length}
+use Rattle.smil_laws.proofs.ListMembers.{differ_each}
+use Rattle.smil_laws.proofs.DependencyRanks.{serials_length}
 use Rattle.smil_tree.specs.Places.{cut}
 use Rattle.smil_tree.specs.Kin.{is_before, is_earlier}
 use Rattle.smil_model.specs.document.Document.{serials}

@@ -9,7 +9,7 @@ use Rattle.smil_model.specs.declared.document.Node.{Node}
 use Rattle.smil_model.specs.document.Document.{is_time_child, serials}
 use Rattle.smil_model.specs.reach.Reach.{is_option}
 use Rattle.smil_model.specs.ListTables.{list_in, list_of, rows}
-use Rattle.smil_laws.proofs.Lineages.{same_eqb}
+use Rattle.smil_laws.proofs.LineageParents.{same_eqb}
 use Rattle.smil_tree.specs.Places.{cut}
 use Rattle.smil_tree.specs.Kin.{AreListsOf, Families, IsKinOf, Separates}
 use Rattle.smil_tree.proofs.KinLists.{before, passing-between, passing-cut, passing-rest}

@@ -14,16 +14,16 @@ use Rattle.smil_model.specs.document.Edits.{children}
 use Rattle.smil_model.specs.document.Valid.{IsDistinct}
 use Rattle.smil_model.specs.reach.Reach.{is_option}
 use Rattle.smil_laws.specs.Edited.{IsOrdered}
-use Rattle.smil_laws.proofs.Aside.{each_append, each_both, each_reverse, each_filter}
-use Rattle.smil_laws.proofs.Below.{IsChain, ordered_chains}
-use Rattle.smil_laws.proofs.Kept.{KeepsParents, parent_same, parent_kept}
-use Rattle.smil_laws.proofs.Lineages.{swap_eqb, is_option-serial_of, upwards-rest, upwards-head}
-use Rattle.smil_laws.proofs.Members.{holds, held_each, held_reverse, differ_each}
+use Rattle.smil_laws.proofs.AsideDocuments.{each_append, each_both, each_reverse, each_filter}
+use Rattle.smil_laws.proofs.DescendantChains.{IsChain, ordered_chains}
+use Rattle.smil_laws.proofs.KeptNodes.{KeepsParents, parent_same, parent_kept}
+use Rattle.smil_laws.proofs.LineageParents.{swap_eqb, is_option-serial_of, upwards-rest, upwards-head}
+use Rattle.smil_laws.proofs.ListMembers.{holds, held_each, held_reverse, differ_each}
 use Rattle.smil_laws.proofs.Lists.{each_weaker, each_kept}
 use Rattle.smil_laws.proofs.EditsBelow.{keeps_list, own_parents}
 use Rattle.smil_tree.specs.Places.{cut}
 use Rattle.smil_tree.specs.Kin.{IsSubtree, AreListsOf, Separates}
-use Rattle.smil_tree.proofs.Families.{drop_at, node_of_place, chain_of, none_up}
+use Rattle.smil_tree.proofs.NodeFamilies.{drop_at, node_of_place, chain_of, none_up}
 use Rattle.smil_tree.proofs.KinLists.{each_left, each_right, none_pass, filter_none, filter_all, filter_each, parts}
 
 -- ---- nodes that are kept with their parents

@@ -11,7 +11,7 @@ use Rattle.smil_model.specs.declared.document.Attrs.{Attrs}
 use Rattle.smil_model.specs.document.Document.{node_at}
 use Rattle.smil_model.specs.document.Edits.{changed_at}
 use Rattle.smil_model.specs.document.Valid.{IsDistinct}
-use Rattle.smil_laws.proofs.Lineages.{swap_eqb}
+use Rattle.smil_laws.proofs.LineageParents.{swap_eqb}
 use Rattle.smil_model.proofs.FirstPlaces.{position_cons}
 use Rattle.smil_tree.specs.Places.{IsIndexed, place_among}
 use Rattle.smil_tree.proofs.Counted.{At, none_at, node_at_place}

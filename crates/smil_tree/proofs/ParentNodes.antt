@@ -4,7 +4,7 @@ use Rattle.smil_model.specs.declared.document.Node.{Node}
 use Rattle.smil_model.specs.document.Document.{node_at, serial_of}
 use Rattle.smil_model.specs.document.Valid.{kind_of}
 use Rattle.smil_model.specs.happening.Queue.{parent_of}
-use Rattle.smil_laws.proofs.Rounds.{find-serial}
+use Rattle.smil_laws.proofs.RoundsRest.{find-serial}
 
 parent_at : (nodes : List Node) (n : Node) (parent : ℕ) (o : Option Node) → node_at nodes n.parent ≡ o → Some parent ≡ serial_of o → node_at nodes parent ≡ o
 parent_at nodes n parent None at is = absurd cc

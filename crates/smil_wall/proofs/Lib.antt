@@ -1,3 +1,3 @@
-pub mod Days
-pub mod Rewritten
-pub mod Near
+pub mod CalendarDays
+pub mod RewrittenLines
+pub mod RewriteColumns

@@ -17,7 +17,7 @@ use smil_lexis::texts::cut;
 use smil_time_list::offsets::is_sign;
 
 // The number of so many digits, which are 1 to 9.
-#[tactic(auto, using(smil_lexis::proofs::Digits::digits_below))]
+#[tactic(auto, using(smil_lexis::proofs::DigitSteps::digits_below))]
 fn digits(text: &[u8], count: usize) -> Option<u32>
     requires { count ≤ DIGITS }
     ensures number { result ≡ digits_of count text.now }

@@ -1,7 +1,7 @@
-pub mod Roots
-pub mod Begins
-pub mod Clocks
-pub mod Members
-pub mod Given
-pub mod ReadAgain
-pub mod Trimmed
+pub mod OneRoot
+pub mod RootBeginZero
+pub mod UnpausedAncestors
+pub mod ListMembers
+pub mod RootReferenceTime
+pub mod RewrittenRoundTrip
+pub mod TrimmedText

@@ -1,3 +1,3 @@
 pub mod LooseValues
-pub mod Values
-mod Copies
+pub mod HandleValues
+mod PiecesCopied

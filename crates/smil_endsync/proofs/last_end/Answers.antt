@@ -2,7 +2,7 @@ use Rattle.std.proofs.Common.{◌∙◌, ap, ℤ, w64}
 use Rattle.std.specs.Prelude.{unwrap_or}
 use Rattle.std.proofs.lemmas.Int.{to_z-of_z}
 use Rattle.smil_model.specs.declared.times.Time.TheVariants.{At}
-use Rattle.smil_endsync.proofs.Children.{latest_is_reduced}
+use Rattle.smil_endsync.proofs.ChildEndFolds.{latest_is_reduced}
 use Rattle.smil_endsync.proofs.last_end.Goals as goal
 
 pub returns : goal.returns

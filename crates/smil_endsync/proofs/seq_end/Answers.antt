@@ -1,5 +1,5 @@
 use Rattle.std.proofs.Common.{sym, ◌∙◌}
-use Rattle.smil_endsync.proofs.Children.{seq_end_at}
+use Rattle.smil_endsync.proofs.ChildEndFolds.{seq_end_at}
 use Rattle.smil_endsync.proofs.seq_end.Goals as goal
 
 pub returns-in-Some : goal.returns-in-Some

@@ -1,4 +1,4 @@
-use Rattle.smil_attrs.proofs.Noded.{attribute_is, attribute_read}
+use Rattle.smil_attrs.proofs.LineRoundTrip.{attribute_is, attribute_read}
 use Rattle.smil_attrs.proofs.again.attr_again.Goals as goal
 
 pub returns : goal.returns

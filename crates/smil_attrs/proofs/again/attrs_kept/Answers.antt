@@ -1,4 +1,4 @@
-use Rattle.smil_attrs.proofs.Kept.{with_stays, without_stays, attrs_anywhere}
+use Rattle.smil_attrs.proofs.EditedAttributes.{with_stays, without_stays, attrs_anywhere}
 use Rattle.smil_attrs.proofs.again.attrs_kept.Goals as goal
 
 pub returns : goal.returns

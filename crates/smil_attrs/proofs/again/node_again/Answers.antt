@@ -1,4 +1,4 @@
-use Rattle.smil_attrs.proofs.Noded.{node_is, node_read}
+use Rattle.smil_attrs.proofs.LineRoundTrip.{node_is, node_read}
 use Rattle.smil_attrs.proofs.again.node_again.Goals as goal
 
 pub returns : goal.returns

@@ -1,8 +1,8 @@
 use Rattle.std.proofs.Common.{false}
 use Rattle.smil_grammar.specs.Attributes.{names}
 use Rattle.smil_grammar.specs.Spellings.{value_text, attribute_text}
-use Rattle.smil_attrs.proofs.Fitting.{fits_at}
-use Rattle.smil_attrs.proofs.Joins.{one_more}
+use Rattle.smil_attrs.proofs.WritableValues.{fits_at}
+use Rattle.smil_attrs.proofs.AttributeJoins.{one_more}
 use Rattle.smil_attrs.proofs.lines.put_attrs.Goals as goal
 
 pub put_attr-requires : goal.put_attr-requires

@@ -1,5 +1,5 @@
 use Rattle.smil_model.specs.document.Values.{is_seq_parent}
-use Rattle.smil_attrs.proofs.Noded.{attrs_allowed}
+use Rattle.smil_attrs.proofs.LineRoundTrip.{attrs_allowed}
 use Rattle.smil_attrs.proofs.nodes.read_node.Goals as goal
 
 pub returns-clause-can_write : goal.returns-clause-can_write

@@ -3,7 +3,7 @@ use Rattle.std.specs.Prelude.{bytes_eq}
 use Rattle.std.specs.List.{list_any}
 use Rattle.smil_attrs.specs.Remainder.{written_in}
 use Rattle.smil_attrs.specs.Repeats.{twice_from}
-use Rattle.smil_attrs.proofs.Repeating.{noted}
+use Rattle.smil_attrs.proofs.RepeatedNames.{noted}
 use Rattle.smil_attrs.proofs.shape.stands_again.Goals as goal
 
 pub returns-then-put : goal.returns-then-put

@@ -7,7 +7,7 @@ use Rattle.smil_model.specs.declared.diary.LogEntry.{LogEntry}
 use Rattle.smil_model.specs.document.Document.{elements}
 use Rattle.smil_audit.specs.Steps.{replayed}
 use Rattle.smil_audit.proofs.StepCounts.{from_begin}
-use Rattle.smil_audit.proofs.Verdicts.{audited, within}
+use Rattle.smil_audit.proofs.VerdictsExact.{audited, within}
 use Rattle.smil_audit.proofs.audit.check.Goals as goal
 
 pub wrong_after-requires : goal.wrong_after-requires

@@ -1,5 +1,5 @@
 use Rattle.std.proofs.Common.{arith}
-use Rattle.smil_audit.proofs.Fronts.{none_left}
+use Rattle.smil_audit.proofs.AgreeingFronts.{none_left}
 use Rattle.smil_audit.proofs.entries.agreed.Goals as goal
 
 pub returns-else-count-other : goal.returns-else-count-other

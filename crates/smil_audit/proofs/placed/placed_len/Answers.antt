@@ -2,7 +2,7 @@ use Rattle.std.proofs.Common.{◌≡◌, ◌∙◌, sym, subst, ℤ, take, w64}
 use Rattle.std.specs.Prelude.{pos}
 use Rattle.std.proofs.lemmas.Int.{to_z-of_z}
 use Rattle.smil_audit.specs.Verdict.{placed}
-use Rattle.smil_audit.proofs.Fronts.{cut_off}
+use Rattle.smil_audit.proofs.AgreeingFronts.{cut_off}
 use Rattle.smil_audit.proofs.placed.placed_len.Goals as goal
 
 pub returns-then-not-is_in_place-clause-placed : goal.returns-then-not-is_in_place-clause-placed

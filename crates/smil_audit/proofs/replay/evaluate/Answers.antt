@@ -1,7 +1,7 @@
 use Rattle.std.proofs.Common.{◌∙◌, ap, sym}
 use Rattle.std.specs.Prelude.{is_some}
 use Rattle.smil_past.specs.Past.{history_of}
-use Rattle.smil_rounds.proofs.Taking.{IsFound, found, has_row, own_first, placed, taken_by}
+use Rattle.smil_rounds.proofs.RowEvaluated.{IsFound, found, has_row, own_first, placed, taken_by}
 use Rattle.smil_audit.proofs.replay.evaluate.Given.{Over}
 use Rattle.smil_audit.proofs.replay.evaluate.Goals as goal
 use Rattle.smil_audit.proofs.replay.evaluate.Goals.{After-unwrap-index}

@@ -2,12 +2,12 @@ use Rattle.std.proofs.Common.{◌≡◌, ◌+◌, refl, subst, List, ℕ, length
 use Rattle.std.proofs.lemmas.Int.{to_z-of_z}
 use Rattle.smil_model.specs.declared.document.Node.{Node}
 use Rattle.smil_model.specs.document.Document.{elements}
-use Rattle.smil_laws.proofs.Numbered.{ordered}
+use Rattle.smil_laws.proofs.NumberedTrees.{ordered}
 use Rattle.smil_graph.specs.Graph.{IsGraphOrder}
 use Rattle.smil_past.specs.Past.{history_of}
 use Rattle.smil_rounds.specs.Round.{AreRowsEvaluated}
-use Rattle.smil_rounds.proofs.Taking.{take_next}
-use Rattle.smil_rounds.proofs.Current.{all_current, order_length, ordered_element}
+use Rattle.smil_rounds.proofs.RowEvaluated.{take_next}
+use Rattle.smil_rounds.proofs.CurrentRowsExact.{all_current, order_length, ordered_element}
 use Rattle.smil_audit.proofs.replay.evaluate_all.Goals as goal
 
 pub evaluate-requires-clause-element : goal.evaluate-requires-clause-element

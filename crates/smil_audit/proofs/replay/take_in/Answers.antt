@@ -4,7 +4,7 @@ use Rattle.std.proofs.lemmas.List.{take_all}
 use Rattle.smil_past.specs.Past.{with_diary}
 use Rattle.smil_model.specs.declared.diary.Entry.{Entry}
 use Rattle.smil_audit.specs.Entries.{agreed}
-use Rattle.smil_audit.proofs.Fronts.{agree_behind, stands_first, within_second}
+use Rattle.smil_audit.proofs.AgreeingFronts.{agree_behind, stands_first, within_second}
 use Rattle.smil_audit.proofs.replay.take_in.Goals as goal
 
 -- as much of a diary agrees with a step as agrees with it behind what has happened

@@ -1,5 +1,5 @@
-use Rattle.smil_audit_laws.proofs.Said.{entry_read, now_read}
-use Rattle.smil_audit_laws.proofs.Written.{diaries_plain}
+use Rattle.smil_audit_laws.proofs.EntryRoundTrip.{entry_read, now_read}
+use Rattle.smil_audit_laws.proofs.WrittenDiaryAccepted.{diaries_plain}
 use Rattle.smil_audit_laws.proofs.laws.entry_lines_are_read_again.Goals as goal
 
 pub returns : goal.returns

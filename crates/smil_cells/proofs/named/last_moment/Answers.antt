@@ -5,11 +5,11 @@ use Rattle.std.proofs.lemmas.Option.{slice_get_within}
 use Rattle.smil_model.specs.declared.diary.Entry.{Entry}
 use Rattle.smil_model.specs.declared.times.TheConstants.{HORIZON}
 use Rattle.smil_model.specs.diary.Diary.{last_moment}
-use Rattle.smil_stretch.proofs.Moments.{timed_of}
+use Rattle.smil_stretch.proofs.ClockAtMoment.{timed_of}
 use Rattle.smil_past.specs.Past.{history_of}
-use Rattle.smil_rounds.proofs.Moments.{fits}
-use Rattle.smil_cells.proofs.Parting.{last_at, none_last}
-use Rattle.smil_model.proofs.Orders.{le_from}
+use Rattle.smil_rounds.proofs.MomentEntries.{fits}
+use Rattle.smil_cells.proofs.LastEntryApart.{last_at, none_last}
+use Rattle.smil_model.proofs.NumberOrders.{le_from}
 use Rattle.smil_cells.proofs.named.last_moment.Goals as goal
 
 pub returns-in-Some : goal.returns-in-Some

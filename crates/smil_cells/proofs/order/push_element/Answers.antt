@@ -1,6 +1,6 @@
 use Rattle.std.proofs.Common.{◌≡◌, ◌∙◌, ◌++◌, sym, ap, subst, ℕ, List, true, false, append-nil}
 use Rattle.std.specs.Prelude.{OnOk, is_some}
-use Rattle.smil_cells.proofs.Ordering.{IsNodeAt, node_at_place, pushed_is}
+use Rattle.smil_cells.proofs.ElementsByPlace.{IsNodeAt, node_at_place, pushed_is}
 use Rattle.smil_cells.proofs.order.push_element.Goals as goal
 
 found : (c : goal.In-Some) → IsNodeAt c.args.tree.now.nodes c.args.place c.in-Some.serial

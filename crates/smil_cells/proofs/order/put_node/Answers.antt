@@ -1,6 +1,6 @@
 use Rattle.std.proofs.lemmas.Result.{on_ok_weaker}
-use Rattle.smil_cells.proofs.Ordering.{none_there}
-use Rattle.smil_cells.proofs.Touching.{node_only, only_same}
+use Rattle.smil_cells.proofs.ElementsByPlace.{none_there}
+use Rattle.smil_cells.proofs.ElementsTouched.{node_only, only_same}
 use Rattle.smil_cells.proofs.order.put_node.Goals as goal
 
 pub returns-in-None-clause-put : goal.returns-in-None-clause-put

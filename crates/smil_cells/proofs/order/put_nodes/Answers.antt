@@ -2,8 +2,8 @@ use Rattle.std.proofs.Common.{◌∙◌, subst, ℕ, List, get_or}
 use Rattle.std.specs.Prelude.{◌==◌}
 use Rattle.smil_model.specs.document.Closure.{has}
 use Rattle.smil_cells.specs.Shown.{ArePut, OnlyMore}
-use Rattle.smil_cells.proofs.Ordering.{none_put, one_more_put, whole}
-use Rattle.smil_cells.proofs.Touching.{listed_at, only_same, only_then}
+use Rattle.smil_cells.proofs.ElementsByPlace.{none_put, one_more_put, whole}
+use Rattle.smil_cells.proofs.ElementsTouched.{listed_at, only_same, only_then}
 use Rattle.smil_cells.proofs.order.put_nodes.Goals as goal
 
 pub loop-serial-init : goal.loop-serial-init

@@ -1,6 +1,6 @@
 use Rattle.std.proofs.Common.{arith, inl}
-use Rattle.smil_cells.proofs.Ordering.{place_put, place_stays}
-use Rattle.smil_cells.proofs.Touching.{place_only}
+use Rattle.smil_cells.proofs.ElementsByPlace.{place_put, place_stays}
+use Rattle.smil_cells.proofs.ElementsTouched.{place_only}
 use Rattle.smil_cells.proofs.order.put_range.Goals as goal
 
 pub loop-place-init : goal.loop-place-init

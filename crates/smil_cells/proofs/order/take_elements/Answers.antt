@@ -2,7 +2,7 @@ use Rattle.std.proofs.Common.{◌≡◌, ◌∙◌, ◌++◌, sym, ap, ℕ, List
 use Rattle.std.specs.Prelude.{slice_get}
 use Rattle.smil_model.specs.document.Document.{elements, serials}
 use Rattle.smil_cells.specs.Shown.{elements_at, nodes_of}
-use Rattle.smil_cells.proofs.Ordering.{in_order, least_first, none_stand, nothing}
+use Rattle.smil_cells.proofs.ElementsByPlace.{in_order, least_first, none_stand, nothing}
 use Rattle.smil_cells.proofs.order.take_elements.Goals as goal
 
 pub loop-place-init : goal.loop-place-init

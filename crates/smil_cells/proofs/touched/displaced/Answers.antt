@@ -1,7 +1,7 @@
 use Rattle.std.proofs.Common.{sym, ap, ◌∙◌, true, false}
 use Rattle.std.specs.Prelude.{is_some}
-use Rattle.smil_past.proofs.Above.{up}
-use Rattle.smil_cells.proofs.Showing.{kept_kind}
+use Rattle.smil_past.proofs.TimeParents.{up}
+use Rattle.smil_cells.proofs.ElementsShown.{kept_kind}
 use Rattle.smil_cells.proofs.touched.displaced.Goals as goal
 
 pub kind-requires : goal.kind-requires

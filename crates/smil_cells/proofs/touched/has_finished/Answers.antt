@@ -5,9 +5,9 @@ use Rattle.smil_model.specs.diary.Plays.{last_finished}
 use Rattle.smil_past.specs.declared.plays.facts.PlayFacts.{PlayFacts}
 use Rattle.smil_past.specs.Past.{history_of}
 use Rattle.smil_past.specs.Played.{past_interval}
-use Rattle.smil_past.proofs.Lent.{some_lent}
-use Rattle.smil_element.proofs.Told.{has_row, row_told}
-use Rattle.smil_cells.proofs.Displacing.{some_mapped}
+use Rattle.smil_past.proofs.ReferenceLent.{some_lent}
+use Rattle.smil_element.proofs.ElementReadings.{has_row, row_told}
+use Rattle.smil_cells.proofs.EntryDisplaces.{some_mapped}
 use Rattle.smil_cells.proofs.touched.has_finished.Goals as goal
 
 pub unwrap-requires : goal.unwrap-requires

@@ -3,11 +3,11 @@ use Rattle.std.specs.Prelude.{slice_get}
 use Rattle.smil_model.specs.declared.diary.Entry.{Entry}
 use Rattle.smil_past.specs.Past.{history_of}
 use Rattle.smil_cells.specs.Shown.{OnlyMore, any_shows, elements_at}
-use Rattle.smil_cells.proofs.Showing.{entries_from, more_shown, all_shown}
-use Rattle.smil_cells.proofs.Touching.{only_same, only_then, shows_at}
+use Rattle.smil_cells.proofs.ElementsShown.{entries_from, more_shown, all_shown}
+use Rattle.smil_cells.proofs.ElementsTouched.{only_same, only_then, shows_at}
 use Rattle.std.proofs.lemmas.List.{take_rest}
 use Rattle.std.proofs.lemmas.Option.{slice_get-get_or}
-use Rattle.smil_stretch.proofs.Idle.{no_entry}
+use Rattle.smil_stretch.proofs.IdleClocks.{no_entry}
 use Rattle.smil_cells.proofs.touched.touch.Goals as goal
 
 pub loop-entry-init : goal.loop-entry-init

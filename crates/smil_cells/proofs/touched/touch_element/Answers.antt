@@ -5,11 +5,11 @@ use Rattle.smil_model.specs.declared.document.Node.{Node}
 use Rattle.smil_model.specs.document.Document.{Document, elements, is_within, node_at, serial_of, time_children}
 use Rattle.smil_model.specs.document.Closure.{has}
 use Rattle.smil_past.specs.Past.{history_of}
-use Rattle.smil_past.proofs.Listing.{known_at_place}
-use Rattle.smil_rounds.proofs.Current.{where_both}
+use Rattle.smil_past.proofs.KnownNodes.{known_at_place}
+use Rattle.smil_rounds.proofs.CurrentRowsExact.{where_both}
 use Rattle.smil_cells.specs.Shown.{AreWithinPut, OnlyMore, StayIn, any_rests, displaced_in, elements_at, shows_in}
-use Rattle.smil_cells.proofs.Showing.{no_place, no_node_shows, shown_alone, shown_beside}
-use Rattle.smil_cells.proofs.Touching.{only_same, only_then, only_weaker, resting_shows, within_shows}
+use Rattle.smil_cells.proofs.ElementsShown.{no_place, no_node_shows, shown_alone, shown_beside}
+use Rattle.smil_cells.proofs.ElementsTouched.{only_same, only_then, only_weaker, resting_shows, within_shows}
 use Rattle.smil_cells.proofs.touched.touch_element.Goals as goal
 
 pub touch_within-requires : goal.touch_within-requires

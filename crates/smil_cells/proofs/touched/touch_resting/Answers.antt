@@ -4,11 +4,11 @@ use Rattle.std.proofs.lemmas.List.{length-map}
 use Rattle.smil_model.specs.declared.document.Node.{Node}
 use Rattle.smil_model.specs.document.Document.{Document, elements, is_within, serials, time_children}
 use Rattle.smil_past.specs.Past.{history_of}
-use Rattle.smil_past.proofs.References.{stands}
-use Rattle.smil_element.proofs.Known.{child_at}
+use Rattle.smil_past.proofs.ItemReferences.{stands}
+use Rattle.smil_element.proofs.KnownElements.{child_at}
 use Rattle.smil_cells.specs.Shown.{AreWithinPut, OnlyMore, any_rests, may_rest}
-use Rattle.smil_cells.proofs.Showing.{all_put, more_put}
-use Rattle.smil_cells.proofs.Touching.{only_same, only_then, rests_at}
+use Rattle.smil_cells.proofs.ElementsShown.{all_put, more_put}
+use Rattle.smil_cells.proofs.ElementsTouched.{only_same, only_then, rests_at}
 use Rattle.smil_cells.proofs.touched.touch_resting.Goals as goal
 
 pub touch_where_resting-requires : goal.touch_where_resting-requires

@@ -1,7 +1,7 @@
 use Rattle.smil_model.specs.document.Document.{time_children}
 use Rattle.smil_past.specs.Past.{history_of}
 use Rattle.smil_cells.specs.Shown.{OnlyMore, StayIn, any_rests}
-use Rattle.smil_cells.proofs.Showing.{ArePutUpTo}
+use Rattle.smil_cells.proofs.ElementsShown.{ArePutUpTo}
 use Rattle.smil_cells.proofs.touched.touch_resting.Given as goal
 
 abbrev pub invariant-loop-child : goal.invariant-loop-child

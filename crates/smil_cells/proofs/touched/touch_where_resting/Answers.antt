@@ -3,10 +3,10 @@ use Rattle.std.proofs.lemmas.Result.{on_ok_weaker}
 use Rattle.std.specs.Prelude.{◌&&◌, is_some}
 use Rattle.std.proofs.lemmas.Bool.{and_from}
 use Rattle.smil_model.specs.document.Document.{Document, is_within, node_at}
-use Rattle.smil_instances.proofs.Targets.{known_node}
+use Rattle.smil_instances.proofs.IdTargets.{known_node}
 use Rattle.smil_past.specs.Past.{history_of}
 use Rattle.smil_cells.specs.Shown.{AreWithinPut, OnlyMore, may_rest}
-use Rattle.smil_cells.proofs.Touching.{only_same, only_weaker}
+use Rattle.smil_cells.proofs.ElementsTouched.{only_same, only_weaker}
 use Rattle.smil_cells.proofs.touched.touch_where_resting.Goals as goal
 
 pub touch_within-requires : goal.touch_within-requires

@@ -4,9 +4,9 @@ use Rattle.std.specs.Prelude.{is_some}
 use Rattle.smil_model.specs.declared.document.Node.{Node}
 use Rattle.smil_model.specs.document.Document.{is_within}
 use Rattle.smil_model.specs.document.Closure.{has}
-use Rattle.smil_cells.proofs.Ordering.{range_put}
-use Rattle.smil_cells.proofs.Showing.{within_there}
-use Rattle.smil_cells.proofs.Touching.{within_only}
+use Rattle.smil_cells.proofs.ElementsByPlace.{range_put}
+use Rattle.smil_cells.proofs.ElementsShown.{within_there}
+use Rattle.smil_cells.proofs.ElementsTouched.{within_only}
 use Rattle.smil_cells.proofs.touched.touch_within.Goals as goal
 
 pub returns-clause-within : goal.returns-clause-within

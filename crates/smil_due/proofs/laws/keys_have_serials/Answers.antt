@@ -1,4 +1,4 @@
-use Rattle.smil_due.proofs.Serials.{keys_have_serials}
+use Rattle.smil_due.proofs.KeySerials.{keys_have_serials}
 use Rattle.smil_due.proofs.laws.keys_have_serials.Goals as goal
 
 pub returns : goal.returns

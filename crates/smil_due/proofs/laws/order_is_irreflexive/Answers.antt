@@ -1,4 +1,4 @@
-use Rattle.smil_due.proofs.Before.{irreflexive}
+use Rattle.smil_due.proofs.KeyOrder.{irreflexive}
 use Rattle.smil_due.proofs.laws.order_is_irreflexive.Goals as goal
 
 pub returns : goal.returns

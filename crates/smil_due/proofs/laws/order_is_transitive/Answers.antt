@@ -1,4 +1,4 @@
-use Rattle.smil_due.proofs.Before.{transitive}
+use Rattle.smil_due.proofs.KeyOrder.{transitive}
 use Rattle.smil_due.proofs.laws.order_is_transitive.Goals as goal
 
 pub returns : goal.returns

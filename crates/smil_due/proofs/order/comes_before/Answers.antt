@@ -1,6 +1,6 @@
 use Rattle.std.proofs.Common.{◌∙◌, ap, sym}
 use Rattle.std.specs.Ordering.{is_lt}
-use Rattle.smil_due.proofs.Before.{before_is_less}
+use Rattle.smil_due.proofs.KeyOrder.{before_is_less}
 use Rattle.smil_due.proofs.order.comes_before.Goals as goal
 
 pub returns : goal.returns

@@ -4,9 +4,9 @@ use mir.Syntax.{w64}
 use mir.Val.{to_z, of_z}
 use Rattle.smil_model.specs.diary.Clocks.{to_document}
 use Rattle.smil_model.specs.happening.Keys.{begins}
-use Rattle.smil_instances.proofs.Sensitive.{serial_is}
+use Rattle.smil_instances.proofs.SensitiveItems.{serial_is}
 use Rattle.smil_past.specs.Past.{history_of}
-use Rattle.smil_element.proofs.Keys.{keyed, timed}
+use Rattle.smil_element.proofs.ComingKeys.{keyed, timed}
 use Rattle.smil_element.proofs.comings.begin_of.Goals as goal
 
 pub returns : goal.returns

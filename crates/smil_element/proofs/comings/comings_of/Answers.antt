@@ -2,12 +2,12 @@ use Rattle.std.proofs.Common.{◌≡◌, ◌∙◌, sym, ap, []}
 use Rattle.std.specs.Prelude.{cond, is_some}
 use Rattle.smil_model.specs.diary.Diary.{is_active}
 use Rattle.smil_model.specs.happening.Keys.{coming_repeat}
-use Rattle.smil_instances.proofs.Sensitive.{serial_is}
+use Rattle.smil_instances.proofs.SensitiveItems.{serial_is}
 use Rattle.smil_past.specs.Past.{history_of}
 use Rattle.smil_element.specs.Element.{and_coming}
 use Rattle.smil_past.specs.declared.plays.facts.PlayFacts.{PlayFacts}
-use Rattle.smil_past.proofs.Active.{begun_is}
-use Rattle.smil_element.proofs.Keys.{both_are}
+use Rattle.smil_past.proofs.KeptActivity.{begun_is}
+use Rattle.smil_element.proofs.ComingKeys.{both_are}
 use Rattle.smil_element.proofs.comings.comings_of.Goals as goal
 use Rattle.smil_element.proofs.comings.comings_of.Goals.{then-is_some, else-is_some}
 

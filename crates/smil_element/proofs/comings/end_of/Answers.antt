@@ -5,9 +5,9 @@ use mir.Syntax.{w64}
 use mir.Val.{to_z, of_z}
 use Rattle.smil_model.specs.diary.Clocks.{to_document}
 use Rattle.smil_model.specs.happening.Keys.{ends}
-use Rattle.smil_instances.proofs.Sensitive.{serial_is}
+use Rattle.smil_instances.proofs.SensitiveItems.{serial_is}
 use Rattle.smil_past.specs.Past.{history_of}
-use Rattle.smil_element.proofs.Keys.{keyed, end_timed}
+use Rattle.smil_element.proofs.ComingKeys.{keyed, end_timed}
 use Rattle.smil_element.proofs.comings.end_of.Goals as goal
 use Rattle.smil_element.proofs.comings.end_of.Goals.{then-interval-end, else-interval-end}
 

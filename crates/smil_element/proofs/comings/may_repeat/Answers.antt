@@ -4,7 +4,7 @@ use Rattle.smil_model.specs.diary.Clocks.{stands}
 use Rattle.smil_past.specs.declared.makeup.Makeup.{Makeup}
 use Rattle.smil_past.specs.Past.{history_of}
 use Rattle.smil_past.specs.Syncs.{SyncRow}
-use Rattle.smil_element.proofs.Keys.{and_told, and_not}
+use Rattle.smil_element.proofs.ComingKeys.{and_told, and_not}
 use Rattle.smil_element.proofs.comings.may_repeat.Goals as goal
 
 pub returns-then-repeats : goal.returns-then-repeats

@@ -2,13 +2,13 @@ use Rattle.std.proofs.Common.{◌∙◌, sym, ap}
 use Rattle.smil_model.specs.diary.Diary.{is_active}
 use Rattle.smil_model.specs.diary.Clocks.{outer_stands}
 use Rattle.smil_model.specs.happening.Keys.{coming_begin, coming_end}
-use Rattle.smil_instances.proofs.Sensitive.{serial_is}
+use Rattle.smil_instances.proofs.SensitiveItems.{serial_is}
 use Rattle.smil_past.specs.Past.{history_of}
 use Rattle.smil_element.specs.Element.{and_coming}
 use Rattle.std.specs.Prelude.{is_some}
 use Rattle.smil_past.specs.declared.plays.facts.PlayFacts.{PlayFacts}
-use Rattle.smil_past.proofs.Active.{begun_is}
-use Rattle.smil_element.proofs.Keys.{none_moves, none_comes, end_moves, begin_moves}
+use Rattle.smil_past.proofs.KeptActivity.{begun_is}
+use Rattle.smil_element.proofs.ComingKeys.{none_moves, none_comes, end_moves, begin_moves}
 use Rattle.smil_element.proofs.comings.moved_of.Goals as goal
 use Rattle.std.proofs.Common.{[]}
 

@@ -3,7 +3,7 @@ use Rattle.std.proofs.lemmas.Int.{ints}
 use mir.Syntax.{w64}
 use mir.Val.{to_z, of_z}
 use Rattle.smil_model.specs.diary.Clocks.{run}
-use Rattle.smil_instances.proofs.Sensitive.{serial_is}
+use Rattle.smil_instances.proofs.SensitiveItems.{serial_is}
 use Rattle.smil_past.specs.Past.{history_of}
 use Rattle.smil_model.specs.Times.{IsNear, later_time}
 use Rattle.smil_model.specs.diary.Clocks.{iteration_start}
@@ -12,7 +12,7 @@ use Rattle.std.proofs.Common.{subst}
 use Rattle.std.specs.Prelude.{◌+ℤ◌, ◌-ℤ◌}
 use Rattle.smil_laws.specs.Near.{IsTimeNear}
 use Rattle.smil_laws.proofs.NearIntervals.{later_near}
-use Rattle.smil_element.proofs.Keys.{no_number, stops, follows}
+use Rattle.smil_element.proofs.ComingKeys.{no_number, stops, follows}
 use Rattle.smil_element.proofs.comings.repeat_at.Goals as goal
 
 pub returns-in_default : goal.returns-in_default

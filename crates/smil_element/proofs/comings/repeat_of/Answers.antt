@@ -1,7 +1,7 @@
 use Rattle.std.proofs.Common.{◌∙◌, refl, sym, true, false}
-use Rattle.smil_instances.proofs.Sensitive.{serial_is}
+use Rattle.smil_instances.proofs.SensitiveItems.{serial_is}
 use Rattle.smil_past.specs.Past.{history_of}
-use Rattle.smil_element.proofs.Keys.{repeat_is}
+use Rattle.smil_element.proofs.ComingKeys.{repeat_is}
 use Rattle.smil_element.proofs.comings.repeat_of.Goals as goal
 
 pub returns-then-may_repeat : goal.returns-then-may_repeat

@@ -5,7 +5,7 @@ use Rattle.smil_model.specs.declared.diary.Entry.{Entry}
 use Rattle.smil_model.specs.diary.Diary.{last_step}
 use Rattle.smil_model.specs.declared.diary.StepKind.TheVariants as kind
 use Rattle.smil_diary.specs.Places.{later_of}
-use Rattle.smil_element.proofs.Siblings.{finish_last, later_within}
+use Rattle.smil_element.proofs.SiblingDisplacement.{finish_last, later_within}
 use Rattle.smil_element.proofs.displaced.finished_by.Goals as goal
 
 pub overflow_add-result : goal.overflow_add-result

@@ -2,8 +2,8 @@ use Rattle.std.proofs.Common.{◌∙◌, ap, sym, Some}
 use Rattle.std.specs.Prelude.{is_some}
 use Rattle.smil_model.specs.document.Document.{Document, node_at}
 use Rattle.smil_model.specs.document.Valid.{kind_of}
-use Rattle.smil_instances.proofs.Targets.{known_node}
-use Rattle.smil_past.proofs.Above.{up}
+use Rattle.smil_instances.proofs.IdTargets.{known_node}
+use Rattle.smil_past.proofs.TimeParents.{up}
 use Rattle.smil_past.specs.Past.{history_of}
 use Rattle.smil_element.proofs.NextChild.{seq_next, seq_sibling, excl_sibling, no_displacing}
 use Rattle.smil_element.proofs.displaced.is_displaced.Goals as goal

@@ -7,9 +7,9 @@ use Rattle.smil_model.specs.declared.document.Node.{Node}
 use Rattle.smil_model.specs.document.Document.{Document, serials, time_children}
 use Rattle.smil_model.specs.diary.Diary.{History}
 use Rattle.smil_model.specs.interval.Current.{child_end}
-use Rattle.smil_instances.proofs.Lists.{map_next}
+use Rattle.smil_instances.proofs.ListsMade.{map_next}
 use Rattle.smil_past.specs.Past.{history_of}
-use Rattle.smil_element.proofs.Known.{child_at}
+use Rattle.smil_element.proofs.KnownElements.{child_at}
 use Rattle.smil_element.proofs.endings.children_ends.Goals as goal
 
 pub end_of_child-requires-clause-child : goal.end_of_child-requires-clause-child

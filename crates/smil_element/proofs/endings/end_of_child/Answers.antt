@@ -5,7 +5,7 @@ use Rattle.smil_model.specs.declared.document.Attrs.{Attrs}
 use Rattle.smil_model.specs.document.Document.{elements}
 use Rattle.smil_model.specs.diary.Diary.{History}
 use Rattle.smil_model.specs.interval.Current.{is_named_child}
-use Rattle.smil_past.proofs.References.{stands}
+use Rattle.smil_past.proofs.ItemReferences.{stands}
 use Rattle.smil_past.specs.Past.{history_of}
 use Rattle.smil_element.specs.Endings.{ending_by}
 use Rattle.smil_element.proofs.ChildEnds.{child_told}

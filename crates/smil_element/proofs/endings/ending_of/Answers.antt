@@ -4,7 +4,7 @@ use Rattle.std.specs.Option.{option_or}
 use Rattle.smil_model.specs.declared.times.Time.{Time}
 use Rattle.smil_past.specs.declared.plays.facts.PlayFacts.{PlayFacts}
 use Rattle.smil_past.specs.Past.{history_of}
-use Rattle.smil_past.proofs.Active.{deferred_is}
+use Rattle.smil_past.proofs.KeptActivity.{deferred_is}
 use Rattle.smil_element.proofs.ChildEnds.{ending_told, unless_deferred}
 use Rattle.smil_element.proofs.endings.ending_of.Goals as goal
 

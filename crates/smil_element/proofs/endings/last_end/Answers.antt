@@ -9,7 +9,7 @@ use Rattle.smil_model.specs.diary.Diary.{History}
 use Rattle.smil_model.specs.interval.Current.{child_end}
 use Rattle.smil_past.specs.Past.{history_of}
 use Rattle.smil_element.proofs.ChildEnds.{alone_at}
-use Rattle.smil_element.proofs.Known.{last_child}
+use Rattle.smil_element.proofs.KnownElements.{last_child}
 use Rattle.smil_element.proofs.endings.last_end.Goals as goal
 
 pub end_of_child-requires-clause-child : goal.end_of_child-requires-clause-child

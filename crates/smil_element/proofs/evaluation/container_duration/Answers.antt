@@ -13,9 +13,9 @@ use Rattle.smil_model.specs.diary.Clocks.{iteration_start}
 use Rattle.smil_model.specs.interval.Current.{child_end, container_implicit}
 use Rattle.smil_model.specs.interval.Durations.{container_duration}
 use Rattle.smil_past.specs.declared.plays.facts.PlayFacts.{PlayFacts}
-use Rattle.smil_past.proofs.References.{stands}
+use Rattle.smil_past.proofs.ItemReferences.{stands}
 use Rattle.smil_past.specs.Past.{history_of}
-use Rattle.smil_past.proofs.Active.{begun_is}
+use Rattle.smil_past.proofs.KeptActivity.{begun_is}
 use Rattle.smil_element.proofs.ChildEnds.{active_container, idle_container}
 use Rattle.smil_element.proofs.evaluation.container_duration.Goals as goal
 

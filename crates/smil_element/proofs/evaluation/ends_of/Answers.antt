@@ -3,7 +3,7 @@ use Rattle.smil_model.specs.declared.document.Edge.TheVariants.{End}
 use Rattle.smil_model.specs.diary.Diary.{History}
 use Rattle.smil_past.specs.Syncs.{syncs_of}
 use Rattle.smil_past.specs.Past.{history_of}
-use Rattle.smil_element.proofs.Awaited.{none_there, ends_settled}
+use Rattle.smil_element.proofs.ExpectedTimes.{none_there, ends_settled}
 use Rattle.smil_element.proofs.evaluation.ends_of.Goals as goal
 
 pub returns-then-is_settled : goal.returns-then-is_settled

@@ -9,8 +9,8 @@ use Rattle.smil_model.specs.interval.Instances.{begin_times, end_times}
 use Rattle.smil_model.specs.interval.Intervals.{interval_of}
 use Rattle.smil_model.specs.Rising.{IsRising}
 use Rattle.smil_past.specs.Past.{history_of}
-use Rattle.smil_element.proofs.Awaited.{begins_rise, ends_rise}
-use Rattle.smil_instances.proofs.Targets.{element_of}
+use Rattle.smil_element.proofs.ExpectedTimes.{begins_rise, ends_rise}
+use Rattle.smil_instances.proofs.IdTargets.{element_of}
 use Rattle.smil_element.proofs.evaluation.evaluation_of.Goals as goal
 
 pub evaluate-requires-clause-begins_rise : goal.evaluate-requires-clause-begins_rise

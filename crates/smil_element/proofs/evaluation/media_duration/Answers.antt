@@ -3,7 +3,7 @@ use Rattle.smil_model.specs.document.Document.{elements}
 use Rattle.smil_model.specs.diary.Diary.{History}
 use Rattle.smil_model.specs.interval.Current.{media_length}
 use Rattle.smil_past.specs.declared.plays.facts.PlayFacts.{PlayFacts}
-use Rattle.smil_past.proofs.References.{stands}
+use Rattle.smil_past.proofs.ItemReferences.{stands}
 use Rattle.smil_past.specs.Past.{history_of}
 use Rattle.smil_element.proofs.ChildEnds.{media_told}
 use Rattle.smil_element.proofs.evaluation.media_duration.Goals as goal

@@ -5,11 +5,11 @@ use Rattle.smil_model.specs.declared.interval.Interval.{Interval}
 use Rattle.smil_model.specs.declared.times.Time.{Time}
 use Rattle.smil_model.specs.diary.Diary.{History}
 use Rattle.smil_model.specs.interval.Current.{implicit_duration}
-use Rattle.smil_instances.proofs.Targets.{element_of}
+use Rattle.smil_instances.proofs.IdTargets.{element_of}
 use Rattle.smil_past.specs.declared.makeup.Makeup.{Makeup}
 use Rattle.smil_past.specs.Past.{history_of}
 use Rattle.smil_past.specs.Syncs.{SyncRow}
-use Rattle.smil_past.proofs.Makeups.{simple_implicit, simple_stated, takes}
+use Rattle.smil_past.proofs.ElementMakeup.{simple_implicit, simple_stated, takes}
 use Rattle.smil_element.proofs.evaluation.simple_duration.Goals as goal
 
 pub implicit_duration-requires-clause-known : goal.implicit_duration-requires-clause-known

@@ -6,8 +6,8 @@ use Rattle.smil_model.specs.Times.{within_horizon}
 use Rattle.smil_model.specs.diary.Diary.{History}
 use Rattle.smil_model.specs.diary.Clocks.{between, outer_stands}
 use Rattle.smil_past.specs.Past.{history_of}
-use Rattle.smil_element.proofs.Awaited.{none_given, one_given}
-use Rattle.smil_element.proofs.Latest.{near_fits}
+use Rattle.smil_element.proofs.ExpectedTimes.{none_given, one_given}
+use Rattle.smil_element.proofs.PresentMoment.{near_fits}
 use Rattle.smil_element.proofs.expected.expected.Goals as goal
 
 pub returns-in_err-value : goal.returns-in_err-value

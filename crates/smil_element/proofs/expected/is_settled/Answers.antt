@@ -1,6 +1,6 @@
 use Rattle.std.proofs.Common.{◌∙◌, ap}
 use Rattle.smil_past.specs.Syncs.{is_empty, syncs_on}
-use Rattle.smil_element.proofs.Awaited.{empty_told, side_told}
+use Rattle.smil_element.proofs.ExpectedTimes.{empty_told, side_told}
 use Rattle.smil_element.proofs.expected.is_settled.Goals as goal
 
 pub returns : goal.returns

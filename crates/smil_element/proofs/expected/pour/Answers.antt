@@ -7,7 +7,7 @@ use Rattle.smil_instances.specs.declared.syncbase.Syncbase.{Syncbase}
 use Rattle.smil_past.specs.Syncs.{expected_by}
 use Rattle.smil_past.specs.Past.{history_of}
 use Rattle.smil_element.specs.Pouring.{with_times}
-use Rattle.smil_element.proofs.Awaited.{pour_more, rises_with}
+use Rattle.smil_element.proofs.ExpectedTimes.{pour_more, rises_with}
 use Rattle.smil_element.proofs.expected.pour.Goals as goal
 
 pub put_some-requires : goal.put_some-requires

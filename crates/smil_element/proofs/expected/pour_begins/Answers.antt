@@ -8,11 +8,11 @@ use Rattle.smil_model.specs.diary.Diary.{History}
 use Rattle.smil_model.specs.interval.Instances.{no_interval, number_of, settled_begins}
 use Rattle.smil_model.specs.Rising.{IsRising}
 use Rattle.smil_past.specs.Syncs.{expected_by, syncs_of, syncs_on}
-use Rattle.smil_past.proofs.References.{stands}
+use Rattle.smil_past.proofs.ItemReferences.{stands}
 use Rattle.smil_past.specs.Past.{history_of}
 use Rattle.smil_element.specs.Pouring.{with_times}
-use Rattle.smil_element.proofs.Awaited.{begins_merged, begins_rise}
-use Rattle.smil_instances.proofs.Targets.{element_of}
+use Rattle.smil_element.proofs.ExpectedTimes.{begins_merged, begins_rise}
+use Rattle.smil_instances.proofs.IdTargets.{element_of}
 use Rattle.smil_element.proofs.expected.pour_begins.Goals as goal
 
 pub pour-requires-clause-rising : goal.pour-requires-clause-rising

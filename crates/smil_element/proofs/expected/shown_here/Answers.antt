@@ -2,10 +2,10 @@ use Rattle.std.proofs.Common.{◌≡◌, ◌∙◌, sym, ap, ℤ, true, false, N
 use Rattle.std.specs.Prelude.{cond, ◌||◌}
 use Rattle.std.proofs.lemmas.Int.{ints}
 use Rattle.smil_model.specs.diary.Clocks.{between, outer, outer_stands}
-use Rattle.smil_stretch.proofs.Told.{running}
+use Rattle.smil_stretch.proofs.ReadingsByClock.{running}
 use Rattle.smil_past.specs.Past.{history_of}
-use Rattle.smil_element.proofs.Latest.{present_fits}
-use Rattle.smil_element.proofs.Moments.{told_now}
+use Rattle.smil_element.proofs.PresentMoment.{present_fits}
+use Rattle.smil_element.proofs.LatestEntry.{told_now}
 use Rattle.smil_element.proofs.expected.shown_here.Goals as goal
 use Rattle.smil_element.proofs.expected.shown_here.Goals.{then-own-via-then-own, then-own-via-else-own+then-other}
 

@@ -1,4 +1,4 @@
-use Rattle.smil_element.proofs.Told.{tree_node, tree_attrs}
+use Rattle.smil_element.proofs.ElementReadings.{tree_node, tree_attrs}
 use Rattle.smil_element.proofs.facts.attrs_of.Goals as goal
 
 pub attrs-requires : goal.attrs-requires

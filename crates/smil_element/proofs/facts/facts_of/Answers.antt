@@ -7,11 +7,11 @@ use Rattle.smil_model.specs.diary.Clocks.{parent_start}
 use Rattle.smil_model.specs.document.Defaults.{min_of}
 use Rattle.smil_past.specs.declared.makeup.Makeup.{Makeup}
 use Rattle.smil_past.specs.declared.plays.facts.PlayFacts.{PlayFacts}
-use Rattle.smil_instances.proofs.Sensitive.{serial_is}
+use Rattle.smil_instances.proofs.SensitiveItems.{serial_is}
 use Rattle.smil_past.specs.Past.{history_of}
-use Rattle.smil_past.proofs.Active.{deferred_is}
+use Rattle.smil_past.proofs.KeptActivity.{deferred_is}
 use Rattle.smil_past.specs.Syncs.{SyncRow}
-use Rattle.smil_element.proofs.FactParts.{facts_are, last_is}
+use Rattle.smil_element.proofs.FactsByParts.{facts_are, last_is}
 use Rattle.smil_element.proofs.facts.facts_of.Goals as goal
 
 pub returns : goal.returns

@@ -1,8 +1,8 @@
 use Rattle.std.proofs.Common.{◌≡◌, ◌∙◌, ap}
 use Rattle.std.specs.Prelude.{Some, is_some}
 use Rattle.smil_model.specs.document.Document.{Document, node_at}
-use Rattle.smil_element.proofs.Known.{kind_is, known_node}
-use Rattle.smil_instances.proofs.Targets.{element_of}
+use Rattle.smil_element.proofs.KnownElements.{kind_is, known_node}
+use Rattle.smil_instances.proofs.IdTargets.{element_of}
 use Rattle.smil_element.proofs.facts.kind_of.Goals as goal
 
 pub kind-requires : goal.kind-requires

@@ -1,4 +1,4 @@
-use Rattle.smil_element.proofs.Told.{parent_known, tree_node, tree_parent}
+use Rattle.smil_element.proofs.ElementReadings.{parent_known, tree_node, tree_parent}
 use Rattle.smil_element.proofs.facts.parent_of.Goals as goal
 
 pub time_parent-requires : goal.time_parent-requires

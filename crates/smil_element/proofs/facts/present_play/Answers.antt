@@ -5,10 +5,10 @@ use mir.Syntax.{w64}
 use mir.Val.{to_z, of_z}
 use Rattle.smil_model.specs.diary.Clocks.{play_start, iteration_start}
 use Rattle.smil_past.specs.declared.plays.facts.PlayFacts.{PlayFacts}
-use Rattle.smil_instances.proofs.Sensitive.{serial_is}
+use Rattle.smil_instances.proofs.SensitiveItems.{serial_is}
 use Rattle.smil_past.specs.Past.{history_of}
-use Rattle.smil_past.proofs.Active.{begun_is}
-use Rattle.smil_element.proofs.FactParts.{play_unbegun, play_begun}
+use Rattle.smil_past.proofs.KeptActivity.{begun_is}
+use Rattle.smil_element.proofs.FactsByParts.{play_unbegun, play_begun}
 use Rattle.smil_element.proofs.facts.present_play.Goals as goal
 
 pub returns-in_err-begin : goal.returns-in_err-begin

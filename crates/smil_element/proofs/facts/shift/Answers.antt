@@ -4,7 +4,7 @@ use Rattle.std.proofs.lemmas.Int.{ints}
 use Rattle.smil_model.specs.diary.Clocks.{outer, run}
 use Rattle.smil_past.specs.declared.plays.facts.PlayFacts.{PlayFacts}
 use Rattle.smil_past.specs.Past.{history_of}
-use Rattle.smil_element.proofs.Moments.{shifted}
+use Rattle.smil_element.proofs.LatestEntry.{shifted}
 use Rattle.smil_element.proofs.facts.shift.Goals as goal
 
 pub returns-then-subject : goal.returns-then-subject

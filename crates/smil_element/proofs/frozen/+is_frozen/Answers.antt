@@ -1,10 +1,10 @@
 use Rattle.std.proofs.Common.{◌≡◌, ◌∙◌, ap, sym, subst, Option, Some, ℕ, true, arith}
 use Rattle.std.specs.Prelude.{IfSome}
 use Rattle.smil_model.specs.diary.Lawful.{has_element}
-use Rattle.smil_instances.proofs.Targets.{element_of}
+use Rattle.smil_instances.proofs.IdTargets.{element_of}
 use Rattle.smil_past.specs.Past.{history_of}
 use Rattle.smil_element.specs.Shown.{frozen_at}
-use Rattle.smil_element.proofs.Ancestors.{active_unfrozen, resting_frozen, frozen_lower, height_of}
+use Rattle.smil_element.proofs.FrozenAncestors.{active_unfrozen, resting_frozen, frozen_lower, height_of}
 use Rattle.smil_element.proofs.frozen.+is_frozen.Goals as goal
 
 pub returns-then-active : goal.returns-then-active

@@ -1,4 +1,4 @@
-use Rattle.smil_element.proofs.Ancestors.{height_of}
+use Rattle.smil_element.proofs.FrozenAncestors.{height_of}
 use Rattle.smil_element.proofs.frozen.+is_frozen.Given as goal
 
 abbrev pub decreases-is_frozen : goal.decreases-is_frozen

@@ -4,7 +4,7 @@ use Rattle.smil_model.specs.document.Document.{time_parent}
 use Rattle.smil_model.specs.diary.Lawful.{has_element}
 use Rattle.smil_past.specs.Past.{history_of}
 use Rattle.smil_element.specs.Shown.{frozen_at}
-use Rattle.smil_element.proofs.Ancestors.{lives_unfrozen}
+use Rattle.smil_element.proofs.FrozenAncestors.{lives_unfrozen}
 use Rattle.smil_element.proofs.frozen.is_frozen_above.Goals as goal
 
 pub returns-then-not-subject : goal.returns-then-not-subject

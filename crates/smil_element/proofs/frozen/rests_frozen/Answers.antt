@@ -5,11 +5,11 @@ use Rattle.smil_model.specs.document.Defaults.{effective_fill}
 use Rattle.smil_model.specs.diary.Diary.{lives_under}
 use Rattle.smil_model.specs.shown.Views.{is_displaced, is_frozen_by, keeps, view_facts}
 use Rattle.smil_past.specs.declared.plays.facts.PlayFacts.{PlayFacts}
-use Rattle.smil_instances.proofs.Sensitive.{serial_is}
+use Rattle.smil_instances.proofs.SensitiveItems.{serial_is}
 use Rattle.smil_past.specs.Past.{history_of}
-use Rattle.smil_past.proofs.Active.{deferred_is}
+use Rattle.smil_past.proofs.KeptActivity.{deferred_is}
 use Rattle.smil_element.specs.Shown.{is_cut}
-use Rattle.smil_element.proofs.Ancestors.{frozen_by_row}
+use Rattle.smil_element.proofs.FrozenAncestors.{frozen_by_row}
 use Rattle.smil_element.proofs.frozen.rests_frozen.Goals as goal
 use Rattle.smil_element.proofs.frozen.rests_frozen.Goals.{then-is_some-2, else-is_some-2}
 

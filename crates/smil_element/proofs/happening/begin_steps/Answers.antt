@@ -4,9 +4,9 @@ use Rattle.smil_model.specs.declared.diary.Step.TheVariants.{Began}
 use Rattle.smil_model.specs.document.Document.{time_parent}
 use Rattle.smil_model.specs.happening.Groups.{begin_under, interruption}
 use Rattle.smil_model.specs.happening.Queue.{decision}
-use Rattle.smil_element.proofs.Appending.{retold, told}
-use Rattle.smil_element.proofs.Finding.{rival_known}
-use Rattle.smil_element.proofs.Following.{begins_against, begins_alone}
+use Rattle.smil_element.proofs.LastAppended.{retold, told}
+use Rattle.smil_element.proofs.PlayingChild.{rival_known}
+use Rattle.smil_element.proofs.EndFollowers.{begins_against, begins_alone}
 use Rattle.smil_element.proofs.happening.begin_steps.Goals as goal
 
 pub interrupt-requires-clause-known : goal.interrupt-requires-clause-known

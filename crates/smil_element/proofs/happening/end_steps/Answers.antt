@@ -5,8 +5,8 @@ use Rattle.smil_model.specs.declared.diary.Step.TheVariants.{Ended}
 use Rattle.smil_model.specs.document.Document.{time_parent}
 use Rattle.smil_model.specs.happening.Groups.{at_moment, cuts, followers}
 use Rattle.smil_element.specs.Parts.{AppendsBy, cuts_below}
-use Rattle.smil_element.proofs.Cutting.{stopped}
-use Rattle.smil_element.proofs.Following.{cuts_are}
+use Rattle.smil_element.proofs.CutsJoined.{stopped}
+use Rattle.smil_element.proofs.EndFollowers.{cuts_are}
 use Rattle.smil_element.proofs.happening.end_steps.Goals as goal
 
 pub returns : goal.returns

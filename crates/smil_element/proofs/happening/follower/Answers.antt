@@ -1,8 +1,8 @@
 use Rattle.std.proofs.Common.{[], ◌∷◌, ap, ◌∙◌}
 use Rattle.smil_model.specs.happening.Groups.{follower}
 use Rattle.smil_model.specs.happening.Queue.{queue_of}
-use Rattle.smil_element.proofs.Appending.{nothing_appended, told}
-use Rattle.smil_element.proofs.Following.{first_follows, none_follows}
+use Rattle.smil_element.proofs.LastAppended.{nothing_appended, told}
+use Rattle.smil_element.proofs.EndFollowers.{first_follows, none_follows}
 use Rattle.smil_element.proofs.happening.follower.Goals as goal
 
 pub returns-in-Some : goal.returns-in-Some

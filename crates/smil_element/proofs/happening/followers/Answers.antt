@@ -4,10 +4,10 @@ use Rattle.smil_model.specs.declared.document.Node.{Node}
 use Rattle.smil_model.specs.document.Document.{node_at, time_parent}
 use Rattle.smil_model.specs.happening.Groups.{follower, followers}
 use Rattle.smil_model.specs.happening.Queue.{queue_of}
-use Rattle.smil_past.proofs.Above.{parent_node}
-use Rattle.smil_element.proofs.Appending.{nothing_appended, retold}
-use Rattle.smil_element.proofs.Finding.{left_known}
-use Rattle.smil_element.proofs.Following.{followers_in, no_followers}
+use Rattle.smil_past.proofs.TimeParents.{parent_node}
+use Rattle.smil_element.proofs.LastAppended.{nothing_appended, retold}
+use Rattle.smil_element.proofs.PlayingChild.{left_known}
+use Rattle.smil_element.proofs.EndFollowers.{followers_in, no_followers}
 use Rattle.smil_element.proofs.happening.followers.Goals as goal
 
 pub follower-requires-clause-known : goal.follower-requires-clause-known

@@ -8,8 +8,8 @@ use Rattle.smil_model.specs.diary.Clocks.{outer}
 use Rattle.smil_model.specs.happening.Groups.{cuts, interruption}
 use Rattle.smil_model.specs.happening.Queue.{decision}
 use Rattle.smil_element.specs.Parts.{cuts_below}
-use Rattle.smil_element.proofs.Appending.{behind, told}
-use Rattle.smil_element.proofs.Following.{acts, cuts_are}
+use Rattle.smil_element.proofs.LastAppended.{behind, told}
+use Rattle.smil_element.proofs.EndFollowers.{acts, cuts_are}
 use Rattle.smil_element.proofs.happening.interrupt.Goals as goal
 
 -- what the begin makes of the playing child and of itself

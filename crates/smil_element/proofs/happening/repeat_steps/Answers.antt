@@ -3,8 +3,8 @@ use Rattle.std.proofs.lemmas.Int.{to_z-of_z}
 use Rattle.smil_model.specs.declared.diary.Step.TheVariants.{Repeated}
 use Rattle.smil_model.specs.happening.Groups.{repeat_steps}
 use Rattle.smil_element.specs.Parts.{cuts_below}
-use Rattle.smil_element.proofs.Appending.{told}
-use Rattle.smil_element.proofs.Following.{cuts_are}
+use Rattle.smil_element.proofs.LastAppended.{told}
+use Rattle.smil_element.proofs.EndFollowers.{cuts_are}
 use Rattle.smil_element.proofs.happening.repeat_steps.Goals as goal
 
 pub returns : goal.returns

@@ -3,8 +3,8 @@ use Rattle.std.proofs.lemmas.Int.{ints}
 use Rattle.smil_model.specs.document.Document.{time_parent}
 use Rattle.smil_model.specs.diary.Clocks.{outer, run}
 use Rattle.smil_past.specs.Past.{history_of}
-use Rattle.smil_element.proofs.Latest.{present_fits}
-use Rattle.smil_element.proofs.Moments.{told_now}
+use Rattle.smil_element.proofs.PresentMoment.{present_fits}
+use Rattle.smil_element.proofs.LatestEntry.{told_now}
 use Rattle.smil_element.proofs.subject.subject_of.Goals as goal
 
 pub returns-clause-found : goal.returns-clause-found

@@ -4,9 +4,9 @@ use Rattle.smil_model.specs.declared.interval.Interval.{Interval}
 use Rattle.smil_model.specs.document.Document.{time_parent}
 use Rattle.smil_model.specs.diary.Diary.{lives_under}
 use Rattle.smil_model.specs.shown.Views.{is_frozen_in, shows_under, time_ancestors, view_by, view_facts}
-use Rattle.smil_instances.proofs.Sensitive.{serial_is}
+use Rattle.smil_instances.proofs.SensitiveItems.{serial_is}
 use Rattle.smil_past.specs.Past.{history_of}
-use Rattle.smil_element.proofs.Ancestors.{frozen_above, shows_above}
+use Rattle.smil_element.proofs.FrozenAncestors.{frozen_above, shows_above}
 use Rattle.smil_element.proofs.view.view_by.Goals as goal
 
 pub returns : goal.returns

@@ -10,14 +10,14 @@ use Rattle.smil_model.specs.document.Document.{time_parent}
 use Rattle.smil_model.specs.diary.Diary.{lives_under}
 use Rattle.smil_model.specs.shown.Views.{is_displaced}
 use Rattle.smil_past.specs.declared.plays.facts.PlayFacts.{PlayFacts}
-use Rattle.smil_instances.proofs.Sensitive.{serial_is}
+use Rattle.smil_instances.proofs.SensitiveItems.{serial_is}
 use Rattle.smil_past.specs.Past.{history_of}
-use Rattle.smil_past.proofs.Active.{begun_is}
+use Rattle.smil_past.proofs.KeptActivity.{begun_is}
 use Rattle.smil_element.specs.Shown.{minds}
 use Rattle.smil_past.specs.declared.makeup.Makeup.{Makeup}
 use Rattle.smil_past.specs.Syncs.{SyncRow}
-use Rattle.smil_element.proofs.Views.{view_told, last_told, cut_told, interval_within}
-use Rattle.smil_element.proofs.Near.{begun_within, last_within, deferred_within}
+use Rattle.smil_element.proofs.ViewByFacts.{view_told, last_told, cut_told, interval_within}
+use Rattle.smil_element.proofs.PlaysNear.{begun_within, last_within, deferred_within}
 use Rattle.smil_element.proofs.view.view_facts.Goals as goal
 use Rattle.smil_element.proofs.view.view_facts.Goals.{then-minds, else-minds, then-subject, else-subject}
 

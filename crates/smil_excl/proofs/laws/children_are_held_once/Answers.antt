@@ -1,4 +1,4 @@
-use Rattle.smil_excl.proofs.Once.{gone, once_deferred, once_paused, once_rest, once_waiting, once_without}
+use Rattle.smil_excl.proofs.QueueDistinct.{gone, once_deferred, once_paused, once_rest, once_waiting, once_without}
 use Rattle.smil_excl.proofs.laws.children_are_held_once.Goals as goal
 
 pub returns-clause-paused : goal.returns-clause-paused

@@ -1,6 +1,6 @@
 use Rattle.smil_model.specs.happening.Queue.{queue_of}
-use Rattle.smil_excl.proofs.Following.{first_of, follow}
-use Rattle.smil_excl.proofs.Once.{first_leaves}
+use Rattle.smil_excl.proofs.QueueEntries.{first_of, follow}
+use Rattle.smil_excl.proofs.QueueDistinct.{first_leaves}
 use Rattle.smil_excl.proofs.laws.queues_follow_entries.Goals as goal
 
 pub returns-clause-follow : goal.returns-clause-follow

@@ -1,4 +1,4 @@
-use Rattle.smil_excl.proofs.Waiting.{fits, put_in_fits}
+use Rattle.smil_excl.proofs.QueueMembers.{fits, put_in_fits}
 use Rattle.smil_excl.proofs.laws.queues_have_room.Goals as goal
 
 pub returns-clause-fit : goal.returns-clause-fit

@@ -1,6 +1,6 @@
 use Rattle.std.specs.Prelude.{codes, decimal}
 use Rattle.std.proofs.lemmas.Result.{on_ok_weaker}
-use Rattle.smil_gen.proofs.Joined.{joined}
+use Rattle.smil_gen.proofs.PiecesJoined.{joined}
 use Rattle.smil_gen.proofs.session.put_orders.Goals as goal
 
 pub returns : goal.returns

@@ -1,6 +1,6 @@
 use Rattle.std.specs.Prelude.{codes, decimal}
 use Rattle.std.proofs.lemmas.Result.{on_ok_weaker}
-use Rattle.smil_gen.proofs.Joined.{joined_twice}
+use Rattle.smil_gen.proofs.PiecesJoined.{joined_twice}
 use Rattle.smil_gen.proofs.session.put_text.Goals as goal
 
 pub returns : goal.returns

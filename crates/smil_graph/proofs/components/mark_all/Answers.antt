@@ -1,5 +1,5 @@
 use Rattle.std.proofs.Common.{◌<◌, length, arith, slice_index_or}
-use Rattle.smil_graph.proofs.Lists.{has_get}
+use Rattle.smil_graph.proofs.PlaceLists.{has_get}
 use Rattle.smil_graph.proofs.components.mark_all.Goals as goal
 
 pub index_mut-requires : goal.index_mut-requires

@@ -1,5 +1,5 @@
 use Rattle.std.proofs.Common.{sym, ◌∙◌}
-use Rattle.smil_graph.proofs.Stacks.{without_low_top, without_none}
+use Rattle.smil_graph.proofs.StackLists.{without_low_top, without_none}
 use Rattle.smil_graph.proofs.components.pop_above.Goals as goal
 
 pub returns-then-start-position : goal.returns-then-start-position

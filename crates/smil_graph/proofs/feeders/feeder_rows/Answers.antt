@@ -4,7 +4,7 @@ use Rattle.std.specs.HashMap.{get_by}
 use Rattle.std.proofs.lemmas.Option.{slice_get-get_or}
 use Rattle.smil_graph.specs.Links.{row}
 use Rattle.smil_graph.specs.Places.{up, element_follows}
-use Rattle.smil_graph.proofs.Rows.{rows_step, feeder_row}
+use Rattle.smil_graph.proofs.RowsBuilt.{rows_step, feeder_row}
 use Rattle.smil_graph.proofs.feeders.feeder_rows.Goals as goal
 
 pub loop-place-preserved : goal.loop-place-preserved

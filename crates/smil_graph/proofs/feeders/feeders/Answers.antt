@@ -4,7 +4,7 @@ use Rattle.std.specs.HashMap.{get_by}
 use Rattle.std.proofs.lemmas.Result.{IfOk-weaker}
 use Rattle.smil_graph.specs.Links.{AreRows, row}
 use Rattle.smil_graph.specs.Places.{up, element_follows, feeds_place}
-use Rattle.smil_graph.proofs.Kept.{feeders_are}
+use Rattle.smil_graph.proofs.GraphTables.{feeders_are}
 use Rattle.smil_graph.proofs.feeders.feeders.Goals as goal
 
 pub returns : goal.returns

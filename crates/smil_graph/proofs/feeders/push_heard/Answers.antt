@@ -4,7 +4,7 @@ use Rattle.std.specs.HashMap.{get_by}
 use Rattle.std.proofs.lemmas.Option.{slice_get-get_or}
 use Rattle.smil_model.specs.document.Closure.{has}
 use Rattle.smil_graph.specs.Places.{source_of}
-use Rattle.smil_graph.proofs.Rows.{leads_more}
+use Rattle.smil_graph.proofs.RowsBuilt.{leads_more}
 use Rattle.smil_graph.proofs.feeders.push_heard.Goals as goal
 
 pub loop-item-preserved : goal.loop-item-preserved

@@ -5,9 +5,9 @@ use Rattle.smil_model.specs.document.Closure.{has}
 use Rattle.smil_graph.specs.Links.{row, links}
 use Rattle.std.proofs.lemmas.Option.{slice_get-get_or}
 use Rattle.smil_graph.specs.Places.{element_hears}
-use Rattle.smil_graph.proofs.Rows.{rows_step, source_row}
+use Rattle.smil_graph.proofs.RowsBuilt.{rows_step, source_row}
 use Rattle.smil_graph.proofs.feeders.sources.Goals as goal
-use Rattle.smil_graph.proofs.Kept.{sources_are}
+use Rattle.smil_graph.proofs.GraphTables.{sources_are}
 
 pub loop-place-preserved : goal.loop-place-preserved
 loop-place-preserved c =

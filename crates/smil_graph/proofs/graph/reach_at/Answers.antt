@@ -4,7 +4,7 @@ use Rattle.std.proofs.lemmas.Result.{IfOk-weaker}
 use Rattle.smil_model.specs.declared.document.Node.{Node}
 use Rattle.smil_model.specs.reach.Reach.{near, down}
 use Rattle.smil_graph.specs.Tables.{reach_of, AreNear, AreOf}
-use Rattle.smil_graph.proofs.Within.{near_are}
+use Rattle.smil_graph.proofs.ReachByPlace.{near_are}
 use Rattle.smil_graph.proofs.graph.reach_at.Goals as goal
 
 pub reach_from-requires-clause-elements : goal.reach_from-requires-clause-elements

@@ -2,10 +2,10 @@ use Rattle.std.proofs.Common.{◌≡◌, sym, ◌∙◌, ap, ◌<◌, arith, len
 use Rattle.std.specs.FinMap.{get}
 use Rattle.std.proofs.lemmas.Result.{IfOk-weaker}
 use Rattle.smil_graph.specs.Tables.{serials_of_places, reach_of, AreOf}
-use Rattle.smil_graph.proofs.Kept.{heads_stay}
-use Rattle.smil_graph.proofs.Lists.{has_is}
-use Rattle.smil_graph.proofs.Ranges.{sorted_rising}
-use Rattle.smil_graph.proofs.Within.{starts_low, reach_is}
+use Rattle.smil_graph.proofs.GraphTables.{heads_stay}
+use Rattle.smil_graph.proofs.PlaceLists.{has_is}
+use Rattle.smil_graph.proofs.PlacesInOrder.{sorted_rising}
+use Rattle.smil_graph.proofs.ReachByPlace.{starts_low, reach_is}
 use Rattle.smil_graph.proofs.graph.reach_from.Goals as goal
 
 pub search-requires-clause-rows : goal.search-requires-clause-rows

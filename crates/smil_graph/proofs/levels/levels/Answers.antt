@@ -1,7 +1,7 @@
 use Rattle.std.proofs.Common.{arith, ◌∙◌, sym}
 use Rattle.std.proofs.lemmas.Result.{IfOk-weaker}
 use Rattle.smil_graph.specs.Links.{AreLevels}
-use Rattle.smil_graph.proofs.Stepped.{begun, leveled}
+use Rattle.smil_graph.proofs.SearchSteps.{begun, leveled}
 use Rattle.smil_graph.proofs.levels.levels.Goals as goal
 
 pub follow-requires-clause-grouping : goal.follow-requires-clause-grouping

@@ -3,8 +3,8 @@ use Rattle.std.specs.Prelude.{bytes_eq, slice_get, option_copied}
 use Rattle.std.specs.HashMap.{get_by}
 use Rattle.std.proofs.lemmas.Option.{slice_get-get_or}
 use Rattle.smil_graph.specs.Places.{marks_of}
-use Rattle.smil_graph.proofs.Marked.{marks_are}
-use Rattle.smil_graph.proofs.Rows.{marked_element, marked_class, marked_step}
+use Rattle.smil_graph.proofs.LoopMarks.{marks_are}
+use Rattle.smil_graph.proofs.RowsBuilt.{marked_element, marked_class, marked_step}
 use Rattle.smil_graph.proofs.looped.looped_marks.Goals as goal
 use Rattle.smil_graph.proofs.looped.looped_marks.Goals.{then-is_element+in_ok-push_marks, else-is_element}
 

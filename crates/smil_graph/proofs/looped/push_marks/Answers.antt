@@ -4,7 +4,7 @@ use Rattle.std.specs.HashMap.{get_by}
 use Rattle.std.proofs.lemmas.Option.{slice_get-get_or}
 use Rattle.smil_model.specs.declared.document.Item.{Item}
 use Rattle.smil_graph.specs.Places.{is_on_level, named_by}
-use Rattle.smil_graph.proofs.Rows.{marks_more}
+use Rattle.smil_graph.proofs.RowsBuilt.{marks_more}
 use Rattle.smil_graph.proofs.looped.push_marks.Goals as goal
 
 pub loop-item-preserved : goal.loop-item-preserved

@@ -1,9 +1,9 @@
 use Rattle.std.proofs.Common.{◌≡◌, sym, ◌∙◌, ap, ◌<◌, arith, length}
 use Rattle.smil_graph.specs.Places.{up}
 use Rattle.smil_graph.specs.Tables.{top_of}
-use Rattle.smil_graph.proofs.Lists.{only}
-use Rattle.smil_graph.proofs.Kept.{children_stay}
-use Rattle.smil_graph.proofs.Within.{near_some, near_none, top_below}
+use Rattle.smil_graph.proofs.PlaceLists.{only}
+use Rattle.smil_graph.proofs.GraphTables.{children_stay}
+use Rattle.smil_graph.proofs.ReachByPlace.{near_some, near_none, top_below}
 use Rattle.smil_graph.proofs.near.near.Goals as goal
 use Rattle.smil_graph.proofs.near.near.Goals.{in-Some+in_ok-insert, in_default}
 

@@ -1,4 +1,4 @@
-use Rattle.smil_graph.proofs.Ranked.{heights_none, heights_step, heights_all}
+use Rattle.smil_graph.proofs.ElementOrder.{heights_none, heights_step, heights_all}
 use Rattle.std.proofs.Common.{◌≡◌, length, arith, rules, []}
 use Rattle.smil_graph.specs.Ranks.{height_under}
 use Rattle.smil_graph.specs.Places.{up}

@@ -1,4 +1,4 @@
-use Rattle.smil_graph.proofs.Ranked.{IsHeightsTo}
+use Rattle.smil_graph.proofs.ElementOrder.{IsHeightsTo}
 use Rattle.std.proofs.Common.{length}
 use Rattle.smil_graph.proofs.ordered.heights.Given as goal
 

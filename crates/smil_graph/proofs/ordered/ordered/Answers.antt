@@ -3,7 +3,7 @@ use Rattle.std.proofs.lemmas.Result.{IfOk-weaker}
 use Rattle.smil_graph.specs.declared.ordered.Rank.{Rank}
 use Rattle.smil_graph.specs.Graph.{IsGraphOrder}
 use Rattle.smil_graph.specs.Tables.{serials_of_places}
-use Rattle.smil_graph.proofs.Ranked.{order_is}
+use Rattle.smil_graph.proofs.ElementOrder.{order_is}
 use Rattle.smil_graph.proofs.ordered.ordered.Goals as goal
 
 pub returns : goal.returns

@@ -3,7 +3,7 @@ use Rattle.std.specs.Prelude.{slice_get}
 use Rattle.std.proofs.lemmas.Option.{slice_get-get_or}
 use Rattle.smil_model.specs.document.Document.{is_element}
 use Rattle.smil_graph.specs.Places.{has_element}
-use Rattle.smil_graph.proofs.Ranked.{ranks_more}
+use Rattle.smil_graph.proofs.ElementOrder.{ranks_more}
 use Rattle.smil_graph.proofs.ordered.ranks.Goals as goal
 use Rattle.smil_graph.proofs.ordered.ranks.Goals.{then-is_element+in_ok-push, else-is_element}
 

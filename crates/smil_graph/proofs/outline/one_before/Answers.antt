@@ -1,5 +1,5 @@
 use Rattle.std.proofs.Common.{◌<◌, sym, ◌∙◌, arith}
-use Rattle.smil_graph.proofs.Ranges.{found_before, one_back_is}
+use Rattle.smil_graph.proofs.PlacesInOrder.{found_before, one_back_is}
 use Rattle.smil_graph.proofs.outline.one_before.Goals as goal
 
 pub returns-in-Ok : goal.returns-in-Ok

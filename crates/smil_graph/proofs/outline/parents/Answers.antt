@@ -4,7 +4,7 @@ use Rattle.std.specs.Prelude.{slice_get}
 use Rattle.std.proofs.lemmas.Option.{slice_get-get_or}
 use Rattle.smil_model.specs.document.Document.{node_at}
 use Rattle.smil_graph.specs.Places.{parent_by}
-use Rattle.smil_graph.proofs.Nodes.{parent_step, table_all}
+use Rattle.smil_graph.proofs.NodesByPlace.{parent_step, table_all}
 use Rattle.smil_graph.proofs.outline.parents.Goals as goal
 
 pub loop-node-preserved : goal.loop-node-preserved

@@ -1,4 +1,4 @@
-use Rattle.smil_graph.proofs.Nodes.{IsTableTo}
+use Rattle.smil_graph.proofs.NodesByPlace.{IsTableTo}
 use Rattle.smil_model.specs.document.Document.{node_at}
 use Rattle.smil_graph.proofs.outline.parents.Given as goal
 

@@ -1,9 +1,9 @@
 use Rattle.std.proofs.Common.{◌≡◌, arith}
 use Rattle.smil_model.specs.document.Document.{previous_in_seq}
 use Rattle.smil_graph.specs.Places.{previous_of, up}
-use Rattle.smil_graph.proofs.Nodes.{table_all}
-use Rattle.smil_graph.proofs.Follow.{previous_step}
-use Rattle.smil_graph.proofs.Kept.{children_rising}
+use Rattle.smil_graph.proofs.NodesByPlace.{table_all}
+use Rattle.smil_graph.proofs.DefinitionsByPlace.{previous_step}
+use Rattle.smil_graph.proofs.GraphTables.{children_rising}
 use Rattle.smil_graph.proofs.outline.previous_in_seqs.Goals as goal
 
 pub previous_of-entry-requires : goal.previous_of-entry-requires

@@ -1,4 +1,4 @@
-use Rattle.smil_graph.proofs.Nodes.{IsTableTo}
+use Rattle.smil_graph.proofs.NodesByPlace.{IsTableTo}
 use Rattle.smil_model.specs.document.Document.{previous_in_seq}
 use Rattle.smil_graph.proofs.outline.previous_in_seqs.Given as goal
 

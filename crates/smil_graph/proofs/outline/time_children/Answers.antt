@@ -5,8 +5,8 @@ use Rattle.smil_model.specs.document.Document.{is_element}
 use Rattle.smil_model.specs.reach.Reach.{is_option}
 use Rattle.smil_graph.specs.Links.{row}
 use Rattle.smil_graph.specs.Places.{has_element, is_element_at, up}
-use Rattle.smil_graph.proofs.Kept.{under_known}
-use Rattle.smil_graph.proofs.Pushed.{filter_more}
+use Rattle.smil_graph.proofs.GraphTables.{under_known}
+use Rattle.smil_graph.proofs.RowsTurned.{filter_more}
 use Rattle.smil_graph.proofs.outline.time_children.Goals as goal
 use Rattle.smil_graph.proofs.outline.time_children.Goals.{then-is_element+in_ok-push_under, else-is_element}
 

@@ -1,7 +1,7 @@
 use Rattle.std.proofs.Common.{◌≡◌, arith}
 use Rattle.smil_model.specs.document.Document.{time_parent}
 use Rattle.smil_graph.specs.Places.{element_above, up}
-use Rattle.smil_graph.proofs.Nodes.{time_parent_step, table_all}
+use Rattle.smil_graph.proofs.NodesByPlace.{time_parent_step, table_all}
 use Rattle.smil_graph.proofs.outline.time_parents.Goals as goal
 
 pub loop-parent-preserved : goal.loop-parent-preserved

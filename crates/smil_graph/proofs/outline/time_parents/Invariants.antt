@@ -1,4 +1,4 @@
-use Rattle.smil_graph.proofs.Nodes.{IsTableTo}
+use Rattle.smil_graph.proofs.NodesByPlace.{IsTableTo}
 use Rattle.smil_model.specs.document.Document.{time_parent}
 use Rattle.smil_graph.proofs.outline.time_parents.Given as goal
 

@@ -3,7 +3,7 @@ use Rattle.std.specs.Prelude.{◌&&◌, bytes_eq, slice_get}
 use Rattle.std.specs.HashMap.{get_by}
 use Rattle.std.proofs.lemmas.Option.{slice_get-get_or}
 use Rattle.smil_model.specs.document.Document.{is_element, has_id}
-use Rattle.smil_graph.proofs.Nodes.{fill_none, fill_step, fill_all}
+use Rattle.smil_graph.proofs.NodesByPlace.{fill_none, fill_step, fill_all}
 use Rattle.smil_graph.proofs.places.id_places.Goals as goal
 
 pub loop-place-init : goal.loop-place-init

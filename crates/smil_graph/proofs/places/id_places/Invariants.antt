@@ -2,7 +2,7 @@ use Rattle.std.proofs.Common.{ℕ, List}
 use Rattle.std.specs.Prelude.{◌&&◌, bytes_eq}
 use Rattle.std.specs.HashMap.{get_by}
 use Rattle.smil_model.specs.document.Document.{is_element, has_id}
-use Rattle.smil_graph.proofs.Nodes.{IsFilledTo}
+use Rattle.smil_graph.proofs.NodesByPlace.{IsFilledTo}
 use Rattle.smil_graph.proofs.places.id_places.Given as goal
 
 abbrev pub invariant-loop-place : goal.invariant-loop-place

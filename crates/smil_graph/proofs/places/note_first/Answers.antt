@@ -1,7 +1,7 @@
 use Rattle.std.proofs.Common.{sym, ◌∙◌}
 use Rattle.std.specs.Prelude.{bytes_eq}
 use Rattle.std.specs.HashMap.{get_by}
-use Rattle.smil_graph.proofs.Nodes.{noted_before, noted_now}
+use Rattle.smil_graph.proofs.NodesByPlace.{noted_before, noted_now}
 use Rattle.smil_graph.proofs.places.note_first.Goals as goal
 
 pub returns-then-contains_key : goal.returns-then-contains_key

@@ -7,7 +7,7 @@ use Rattle.smil_model.specs.declared.document.Node.{Node}
 use Rattle.smil_model.specs.document.Document.{node_at}
 use Rattle.smil_model.specs.FirstPlaces.{AreFirstPlaces}
 use Rattle.smil_graph.specs.Places.{IsIndex}
-use Rattle.smil_graph.proofs.Kept.{first_indexed}
+use Rattle.smil_graph.proofs.GraphTables.{first_indexed}
 use Rattle.smil_graph.proofs.places.serial_places.Goals as goal
 
 pub returns : goal.returns

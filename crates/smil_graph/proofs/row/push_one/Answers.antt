@@ -3,7 +3,7 @@ use Rattle.std.specs.Prelude.{◌||◌}
 use Rattle.std.proofs.lemmas.Result.{on_ok_weaker}
 use Rattle.smil_model.specs.document.Closure.{has}
 use Rattle.smil_model.specs.reach.Reach.{is_option}
-use Rattle.smil_graph.proofs.Lists.{has_push}
+use Rattle.smil_graph.proofs.PlaceLists.{has_push}
 use Rattle.smil_graph.proofs.row.push_one.Goals as goal
 
 pub returns-in-Some : goal.returns-in-Some

@@ -1,7 +1,7 @@
 use Rattle.std.proofs.Common.{rules, ◌≡◌, ◌∙◌, ap, ◌<◌, length, get_or, arith, [], refl}
 use Rattle.std.proofs.lemmas.List.{get_or_read_under}
 use Rattle.smil_graph.specs.Links.{row}
-use Rattle.smil_graph.proofs.Reached.{first, step, done, few, next_below}
+use Rattle.smil_graph.proofs.SearchInvariant.{first, step, done, few, next_below}
 use Rattle.smil_graph.proofs.search.search.Goals as goal
 use Rattle.smil_graph.proofs.search.search.Goals.{else-loop-next-test, then-loop-next-test+then-next-len}
 

@@ -1,4 +1,4 @@
-use Rattle.smil_graph.proofs.Reached.{IsSearch}
+use Rattle.smil_graph.proofs.SearchInvariant.{IsSearch}
 use Rattle.smil_graph.proofs.search.search.Given as goal
 
 abbrev pub invariant-loop-next : goal.invariant-loop-next

@@ -5,7 +5,7 @@ use Rattle.smil_model.specs.document.Valid.{IsDistinct}
 use Rattle.smil_graph.specs.Links.{AreRows, AreLevels}
 use Rattle.smil_graph.specs.Places.{feeds_place}
 use Rattle.smil_graph.specs.Tables.{AreElementLevels}
-use Rattle.smil_graph.proofs.Kept.{fed_stay, levels_are}
+use Rattle.smil_graph.proofs.GraphTables.{fed_stay, levels_are}
 use Rattle.smil_graph.proofs.tables.element_levels.Goals as goal
 
 pub levels-requires : goal.levels-requires

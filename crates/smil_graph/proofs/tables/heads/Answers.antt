@@ -3,7 +3,7 @@ use Rattle.std.proofs.lemmas.Result.{IfOk-weaker}
 use Rattle.smil_graph.specs.Links.{row, that_have}
 use Rattle.smil_graph.specs.Places.{reads_place}
 use Rattle.smil_graph.specs.Tables.{AreHeads}
-use Rattle.smil_graph.proofs.Kept.{both_ok, rows_stay, reads_low, heads_are}
+use Rattle.smil_graph.proofs.GraphTables.{both_ok, rows_stay, reads_low, heads_are}
 use Rattle.smil_graph.proofs.tables.heads.Goals as goal
 
 pub turned-requires : goal.turned-requires

@@ -2,7 +2,7 @@ use Rattle.std.proofs.Common.{◌≡◌, arith}
 use Rattle.std.specs.Prelude.{map}
 use Rattle.std.proofs.lemmas.Grind.{common_steps}
 use Rattle.smil_graph.specs.Tables.{serials_of_places}
-use Rattle.smil_graph.proofs.Kept.{readers_are}
+use Rattle.smil_graph.proofs.GraphTables.{readers_are}
 use Rattle.smil_graph.proofs.tables.readers.Goals as goal
 
 pub returns : goal.returns

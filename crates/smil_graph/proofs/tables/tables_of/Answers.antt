@@ -1,6 +1,6 @@
 use Rattle.std.proofs.Common.{length}
 use Rattle.smil_graph.specs.Places.{feeds_place}
-use Rattle.smil_graph.proofs.Kept.{rows_stay, feeds_low}
+use Rattle.smil_graph.proofs.GraphTables.{rows_stay, feeds_low}
 use Rattle.smil_graph.proofs.tables.tables_of.Goals as goal
 
 pub feeders-requires-clause-parents : goal.feeders-requires-clause-parents

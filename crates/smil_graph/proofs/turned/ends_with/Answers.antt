@@ -1,5 +1,5 @@
 use Rattle.std.proofs.Common.{sym}
-use Rattle.smil_graph.proofs.Pushed.{last_is}
+use Rattle.smil_graph.proofs.RowsTurned.{last_is}
 use Rattle.smil_graph.proofs.turned.ends_with.Goals as goal
 
 pub returns-in-Some : goal.returns-in-Some

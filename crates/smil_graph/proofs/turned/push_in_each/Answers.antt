@@ -1,8 +1,8 @@
 use Rattle.std.proofs.Common.{◌≡◌, sym, ◌∙◌, ap, ◌<◌, length, slice_index_or, arith, [], true, false, rules}
 use Rattle.std.proofs.lemmas.List.{get_or_default}
 use Rattle.smil_graph.specs.Links.{row, is_last}
-use Rattle.smil_graph.proofs.Lists.{has_get}
-use Rattle.smil_graph.proofs.Pushed.{stays, pushed}
+use Rattle.smil_graph.proofs.PlaceLists.{has_get}
+use Rattle.smil_graph.proofs.RowsTurned.{stays, pushed}
 use Rattle.smil_graph.proofs.turned.push_in_each.Goals as goal
 use Rattle.smil_graph.proofs.turned.push_in_each.Goals.{then-not-ends_with+in_ok-push_at, else-not-ends_with}
 

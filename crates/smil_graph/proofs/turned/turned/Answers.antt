@@ -2,7 +2,7 @@ use Rattle.std.proofs.Common.{◌≡◌, sym, ◌∙◌, ap, length, arith, [], 
 use Rattle.std.proofs.lemmas.List.{get_or_read_under}
 use Rattle.smil_model.specs.document.Closure.{has}
 use Rattle.smil_graph.specs.Links.{row, IsPushedInEach}
-use Rattle.smil_graph.proofs.Pushed.{turned_more}
+use Rattle.smil_graph.proofs.RowsTurned.{turned_more}
 use Rattle.smil_graph.proofs.turned.turned.Goals as goal
 
 pub push_in_each-requires : goal.push_in_each-requires

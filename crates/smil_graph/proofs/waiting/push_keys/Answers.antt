@@ -1,7 +1,7 @@
 use Rattle.std.proofs.Common.{◌≡◌, sym, ◌∙◌, ap, Some}
 use Rattle.std.specs.Prelude.{slice_get}
 use Rattle.std.proofs.lemmas.Option.{slice_get-get_or}
-use Rattle.smil_graph.proofs.Keyed.{with_item}
+use Rattle.smil_graph.proofs.KeyRows.{with_item}
 use Rattle.smil_graph.proofs.waiting.push_keys.Goals as goal
 
 pub loop-item-preserved : goal.loop-item-preserved

@@ -3,7 +3,7 @@ use Rattle.std.specs.Prelude.{◌&&◌, slice_get}
 use Rattle.std.proofs.lemmas.Option.{slice_get-get_or}
 use Rattle.smil_model.specs.document.Document.{is_element}
 use Rattle.smil_graph.specs.Tables.{has_key_item}
-use Rattle.smil_graph.proofs.Keyed.{none_waits, more_waits, waits_is, all_wait}
+use Rattle.smil_graph.proofs.KeyRows.{none_waits, more_waits, waits_is, all_wait}
 use Rattle.smil_graph.proofs.waiting.waiting.Goals as goal
 
 pub loop-place-init : goal.loop-place-init

@@ -1,4 +1,4 @@
-use Rattle.smil_graph.proofs.Keyed.{IsWaitingTo}
+use Rattle.smil_graph.proofs.KeyRows.{IsWaitingTo}
 use Rattle.smil_graph.proofs.waiting.waiting.Given as goal
 
 abbrev pub invariant-loop-place : goal.invariant-loop-place

@@ -2,7 +2,7 @@ use Rattle.std.proofs.Common.{sym, subst}
 use Rattle.std.specs.Prelude.{get_or}
 use Rattle.smil_instance_rows.specs.Changes.{HasCell, cell_of}
 use Rattle.smil_instance_rows.specs.Places.{IsNotAfter}
-use Rattle.smil_instance_rows.proofs.Tables.{fits_at, blank}
+use Rattle.smil_instance_rows.proofs.CellChanges.{fits_at, blank}
 use Rattle.smil_instance_rows.proofs.adds.add_each.Goals as goal
 
 pub add-requires-clause-cell : goal.add-requires-clause-cell

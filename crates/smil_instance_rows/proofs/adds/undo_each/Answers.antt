@@ -3,7 +3,7 @@ use Rattle.std.proofs.lemmas.Iterator.Adapters.{YieldsList-from_rev_slice}
 use Rattle.std.proofs.lemmas.Iterator.Consumers.{YieldsList-end, YieldsList-turn}
 use Rattle.std.proofs.lemmas.List.{length-reverse, length-take-le, length_push}
 use Rattle.smil_instance_rows.specs.Changes.{with_adds}
-use Rattle.smil_instance_rows.proofs.Tables.{undone_next}
+use Rattle.smil_instance_rows.proofs.CellChanges.{undone_next}
 use Rattle.smil_instance_rows.proofs.adds.undo_each.Goals as goal
 
 pub undo-requires-clause-cell : goal.undo-requires-clause-cell

@@ -1,6 +1,6 @@
 use Rattle.std.proofs.Common.{◌∙◌, ap}
 use Rattle.smil_model.specs.Rising.{taken_out}
-use Rattle.smil_model.proofs.Rising.{taken_put}
+use Rattle.smil_model.proofs.RisingLists.{taken_put}
 use Rattle.smil_instance_rows.proofs.item_times.add.Goals as goal
 
 pub returns-in-Err-clause-sorted_stays : goal.returns-in-Err-clause-sorted_stays

@@ -1,7 +1,7 @@
 use Rattle.std.proofs.Common.{◌∙◌, sym, ap, subst}
 use Rattle.smil_instance_rows.specs.Rows.{from_place}
 use Rattle.smil_instance_rows.specs.Places.{Replaces}
-use Rattle.smil_instance_rows.proofs.InOrder.{cut_first, replaces_rest}
+use Rattle.smil_instance_rows.proofs.TimesByPlace.{cut_first, replaces_rest}
 use Rattle.smil_instance_rows.proofs.item_times.cut.Goals as goal
 
 pub loop-first-preserved : goal.loop-first-preserved

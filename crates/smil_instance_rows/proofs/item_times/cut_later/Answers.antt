@@ -1,7 +1,7 @@
 use Rattle.std.proofs.Common.{◌∙◌, sym, ap, subst}
 use Rattle.smil_instance_rows.specs.Rows.{before_place}
 use Rattle.smil_instance_rows.specs.Places.{Replaces}
-use Rattle.smil_instance_rows.proofs.InOrder.{before_push, replaces_first}
+use Rattle.smil_instance_rows.proofs.TimesByPlace.{before_push, replaces_first}
 use Rattle.smil_instance_rows.proofs.item_times.cut_later.Goals as goal
 
 pub loop-last-preserved : goal.loop-last-preserved

@@ -1,6 +1,6 @@
 use Rattle.std.proofs.Common.{◌∙◌, sym, ap, subst}
 use Rattle.smil_instance_rows.specs.Places.{Replaces, last_alone}
-use Rattle.smil_instance_rows.proofs.InOrder.{last_of_more, last_of_few, replaces_rest}
+use Rattle.smil_instance_rows.proofs.TimesByPlace.{last_of_more, last_of_few, replaces_rest}
 use Rattle.smil_instance_rows.proofs.item_times.keep_last.Goals as goal
 
 pub loop-first-preserved : goal.loop-first-preserved

@@ -1,6 +1,6 @@
 use Rattle.std.proofs.Common.{sym, subst}
 use Rattle.smil_instance_rows.specs.Places.{IsUndone}
-use Rattle.smil_instance_rows.proofs.InOrder.{undone_last}
+use Rattle.smil_instance_rows.proofs.TimesByPlace.{undone_last}
 use Rattle.smil_instance_rows.proofs.item_times.undo.Goals as goal
 
 pub returns-in-Some : goal.returns-in-Some

@@ -1,7 +1,7 @@
 use Rattle.std.proofs.Common.{rules, tests}
 use Rattle.std.specs.Prelude.{not}
 use Rattle.std.proofs.lemmas.List.Sorted.{IsPartitionPoint-from_clause}
-use Rattle.smil_model.proofs.Rising.{parted_from, place_found}
+use Rattle.smil_model.proofs.RisingLists.{parted_from, place_found}
 use Rattle.smil_instance_rows.proofs.sorted.place_from.Goals as goal
 
 pub returns : goal.returns

@@ -1,6 +1,6 @@
 use Rattle.std.proofs.Common.{◌≡◌, ◌∙◌, sym, subst, List}
 use Rattle.smil_model.specs.Rising.{IsPlaceFrom, IsRising, put_in}
-use Rattle.smil_model.proofs.Rising.{insert_here, rises_put}
+use Rattle.smil_model.proofs.RisingLists.{insert_here, rises_put}
 use Rattle.smil_instance_rows.proofs.sorted.put_in.Goals as goal
 
 pub place_from-place-requires : goal.place_from-place-requires

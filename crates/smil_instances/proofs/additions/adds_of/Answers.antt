@@ -3,9 +3,9 @@ use Rattle.std.proofs.lemmas.List.{take_all, append-nil}
 use Rattle.smil_model.specs.declared.diary.Entry.{Entry}
 use Rattle.smil_model.specs.reach.Reach.{subject_of}
 use Rattle.smil_instance_rows.specs.declared.cell.Add.{Add}
-use Rattle.smil_instance_rows.proofs.Tables.{no_cell}
+use Rattle.smil_instance_rows.proofs.CellChanges.{no_cell}
 use Rattle.smil_instances.specs.Intake.{adds_to, history_of}
-use Rattle.smil_instances.proofs.Gifts.{more_adds}
+use Rattle.smil_instances.proofs.EntryGifts.{more_adds}
 use Rattle.smil_instances.proofs.additions.adds_of.Goals as goal
 use Rattle.smil_instances.proofs.additions.adds_of.Goals.{in-Some+in_ok-push, in_default}
 

@@ -3,8 +3,8 @@ use Rattle.smil_model.specs.declared.document.Edge.TheVariants.{Begin}
 use Rattle.smil_instances.specs.Sources.{source_of}
 use Rattle.smil_instances.specs.Contribution.{given_at}
 use Rattle.smil_instances.specs.Intake.{default_of, history_of, given_item}
-use Rattle.smil_instances.proofs.Hands.{at_hand}
-use Rattle.smil_instances.proofs.Gifts.{gift_is, no_more, only_item, source_of_item}
+use Rattle.smil_instances.proofs.BeforeEntry.{at_hand}
+use Rattle.smil_instances.proofs.EntryGifts.{gift_is, no_more, only_item, source_of_item}
 use Rattle.smil_instances.proofs.additions.given_by_default.Goals as goal
 
 pub returns-then-cell-gt0 : goal.returns-then-cell-gt0

@@ -1,7 +1,7 @@
 use Rattle.std.proofs.Common.{◌≡◌, sym, ◌∙◌, ap, refl, Some}
 use Rattle.smil_instances.specs.Intake.{history_of, given_item}
-use Rattle.smil_instances.proofs.Hands.{at_hand}
-use Rattle.smil_instances.proofs.Gifts.{attrs_of, gift_is, item_here, listed_item}
+use Rattle.smil_instances.proofs.BeforeEntry.{at_hand}
+use Rattle.smil_instances.proofs.EntryGifts.{attrs_of, gift_is, item_here, listed_item}
 use Rattle.smil_instances.proofs.additions.given_item.Goals as goal
 
 pub returns-in_ok-item-in-Some : goal.returns-in_ok-item-in-Some

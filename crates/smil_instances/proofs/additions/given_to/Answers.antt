@@ -4,8 +4,8 @@ use Rattle.smil_model.specs.diary.Diary.{History}
 use Rattle.smil_instances.specs.Contribution.{may_give}
 use Rattle.smil_instances.specs.Intake.{history_of}
 use Rattle.smil_instances.specs.Sources.{source_at}
-use Rattle.smil_instances.proofs.Concerned.{cell_known}
-use Rattle.smil_instances.proofs.Ungiven.{none_given, none_there}
+use Rattle.smil_instances.proofs.ConcernedCells.{cell_known}
+use Rattle.smil_instances.proofs.EmptyGifts.{none_given, none_there}
 use Rattle.smil_instances.proofs.additions.given_to.Goals as goal
 
 pub returns-then-not-may_give : goal.returns-then-not-may_give

@@ -4,8 +4,8 @@ use Rattle.smil_model.specs.declared.diary.Step.TheVariants.{Repeated}
 use Rattle.smil_model.specs.document.Document.{time_parent, serial_of}
 use Rattle.smil_model.specs.declared.document.Node.{Node}
 use Rattle.smil_model.specs.diary.Diary.{with_entry}
-use Rattle.smil_instances.proofs.Targets.{known_node}
-use Rattle.smil_instances.proofs.Iterations.{repeated}
+use Rattle.smil_instances.proofs.IdTargets.{known_node}
+use Rattle.smil_instances.proofs.RepeatIteration.{repeated}
 use Rattle.smil_instances.proofs.before.repeated_iteration.Goals as goal
 
 pub time_parent-requires : goal.time_parent-requires

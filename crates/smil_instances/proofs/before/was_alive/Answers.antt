@@ -1,4 +1,4 @@
-use Rattle.smil_instances.proofs.Targets.{known_node}
+use Rattle.smil_instances.proofs.IdTargets.{known_node}
 use Rattle.smil_instances.proofs.before.was_alive.Goals as goal
 
 pub time_parent-requires : goal.time_parent-requires

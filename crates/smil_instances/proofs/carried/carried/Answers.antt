@@ -4,7 +4,7 @@ use mir.Syntax.{w64, w128}
 use mir.Val.{SFits, to_z, of_z}
 use Rattle.std.proofs.lemmas.Int.{ints, to_z-of_z}
 use Rattle.smil_model.specs.Times.{within_horizon}
-use Rattle.smil_instances.proofs.Sums.{whole_sum}
+use Rattle.smil_instances.proofs.SumsFit.{whole_sum}
 use Rattle.smil_instances.proofs.carried.carried.Goals as goal
 
 -- the four numbers as they were passed, in 128 bits

@@ -7,11 +7,11 @@ use Rattle.smil_model.specs.declared.document.Node.{Node}
 use Rattle.smil_model.specs.document.Document.{time_parent}
 use Rattle.smil_instances.specs.declared.source.Source.{Source}
 use Rattle.smil_instances.specs.Sources.{source_of}
-use Rattle.smil_instances.proofs.BySource.{means, key_means, start_given, edge_given, event_given, key_given, start_read, edge_read}
+use Rattle.smil_instances.proofs.GiftsBySource.{means, key_means, start_given, edge_given, event_given, key_given, start_read, edge_read}
 use Rattle.smil_instances.proofs.LastEntry.{clocks_read}
-use Rattle.smil_instances.proofs.Targets.{known_node}
+use Rattle.smil_instances.proofs.IdTargets.{known_node}
 use Rattle.smil_instances.proofs.contribution.given.Goals as goal
-use Rattle.smil_instances.proofs.Sensitive.{serial_is}
+use Rattle.smil_instances.proofs.SensitiveItems.{serial_is}
 
 -- the source of the item by the nodes of the history
 source_read : (nodes ns : List Node) (who s : ℕ) (item : Item) (source kind : Source) → nodes ≡ ns → s ≡ who → source ≡ source_of ns who item → source ≡ kind → source_of nodes s item ≡ kind

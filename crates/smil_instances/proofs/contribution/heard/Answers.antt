@@ -5,11 +5,11 @@ use Rattle.std.proofs.lemmas.Int.{to_z-of_z}
 use Rattle.std.specs.Prelude.{◌+ℤ◌}
 use Rattle.smil_model.specs.Times.{within_horizon, IsMoment}
 use Rattle.smil_model.specs.diary.Clocks.{outer}
-use Rattle.smil_instances.proofs.BySource.{unheard, heard}
+use Rattle.smil_instances.proofs.GiftsBySource.{unheard, heard}
 use Rattle.smil_instances.proofs.LastEntry.{clocks_read}
-use Rattle.smil_instances.proofs.Sums.{moment_fits, moved_is, near_fits, read_at}
+use Rattle.smil_instances.proofs.SumsFit.{moment_fits, moved_is, near_fits, read_at}
 use Rattle.smil_instances.proofs.contribution.heard.Goals as goal
-use Rattle.smil_instances.proofs.Sensitive.{serial_is}
+use Rattle.smil_instances.proofs.SensitiveItems.{serial_is}
 
 pub outer-outer-requires : goal.outer-outer-requires
 outer-outer-requires c =

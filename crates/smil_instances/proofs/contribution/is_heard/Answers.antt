@@ -1,7 +1,7 @@
 use Rattle.std.proofs.Common.{◌∙◌, ap, sym}
 use Rattle.std.specs.Prelude.{◌&&◌}
 use Rattle.smil_model.specs.interval.Instances.{hears}
-use Rattle.smil_instances.proofs.Targets.{means_known}
+use Rattle.smil_instances.proofs.IdTargets.{means_known}
 use Rattle.smil_instances.proofs.contribution.is_heard.Goals as goal
 
 pub occurs-requires-clause-element : goal.occurs-requires-clause-element

@@ -1,8 +1,8 @@
 use Rattle.std.proofs.Common.{◌∙◌, ap, sym, Some, rules}
 use mir.Syntax.{w64}
 use mir.Val.{SFits}
-use Rattle.smil_instances.proofs.EdgeTimes.{began_is, ended_is}
-use Rattle.smil_instances.proofs.Sums.{time_is}
+use Rattle.smil_instances.proofs.EdgeGifts.{began_is, ended_is}
+use Rattle.smil_instances.proofs.SumsFit.{time_is}
 use Rattle.smil_instances.proofs.edge_times.edge_time.Goals as goal
 
 pub returns-in-Began : goal.returns-in-Began

@@ -2,7 +2,7 @@ use Rattle.std.proofs.Common.{rules}
 use mir.Syntax.{w64}
 use mir.Val.{SFits}
 use Rattle.smil_model.specs.diary.Clocks.{outer}
-use Rattle.smil_instances.proofs.Sums.{carried_is, read_at}
+use Rattle.smil_instances.proofs.SumsFit.{carried_is, read_at}
 use Rattle.smil_instances.proofs.edge_times.time_of.Goals as goal
 
 pub returns : goal.returns

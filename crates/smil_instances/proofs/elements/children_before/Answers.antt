@@ -4,9 +4,9 @@ use Rattle.std.specs.HashMap.{get}
 use Rattle.smil_model.specs.declared.document.Node.{Node}
 use Rattle.smil_model.specs.document.Document.{elements, previous_child, time_parent, serial_of}
 use Rattle.smil_model.specs.reach.Reach.{is_option}
-use Rattle.smil_instances.proofs.Begun.{at_place, element_at}
-use Rattle.smil_instances.proofs.Lists.{map_next}
-use Rattle.smil_instances.proofs.Siblings.{before_told, last_told}
+use Rattle.smil_instances.proofs.EmptyRows.{at_place, element_at}
+use Rattle.smil_instances.proofs.ListsMade.{map_next}
+use Rattle.smil_instances.proofs.SiblingBefore.{before_told, last_told}
 use Rattle.smil_instances.proofs.elements.children_before.Goals as goal
 
 pub time_parent-parent-requires : goal.time_parent-parent-requires

@@ -3,7 +3,7 @@ use Rattle.std.specs.HashMap.{get}
 use Rattle.smil_model.specs.document.Document.{elements, is_time_child, previous_child, time_parent, serial_of}
 use Rattle.smil_model.specs.declared.document.Node.{Node}
 use Rattle.std.specs.Prelude.{filter}
-use Rattle.smil_instances.proofs.Siblings.{last_of}
+use Rattle.smil_instances.proofs.SiblingBefore.{last_of}
 use Rattle.smil_instances.proofs.elements.children_before.Given as goal
 
 -- of the first elements: each one's child before, and the last time child of each parent

@@ -7,7 +7,7 @@ use Rattle.smil_model.specs.document.Document.{elements}
 use Rattle.smil_model.specs.reach.Reach.{is_option}
 use Rattle.smil_model.specs.FirstPlaces.{AreFirstPlaces}
 use Rattle.smil_instances.specs.Spread.{IsIndex}
-use Rattle.smil_instances.proofs.Siblings.{distinct_elements, first_told}
+use Rattle.smil_instances.proofs.SiblingBefore.{distinct_elements, first_told}
 use Rattle.smil_instances.proofs.elements.places_of.Goals as goal
 
 pub returns : goal.returns

@@ -6,9 +6,9 @@ use Rattle.smil_model.specs.declared.document.Node.{Node}
 use Rattle.smil_model.specs.document.Document.{elements, has_serial}
 use Rattle.smil_instances.specs.Sources.{concerns_cell}
 use Rattle.smil_instances.specs.Spread.{Takes, first_rows, row_items, side_items}
-use Rattle.smil_instances.proofs.Begun.{at_place}
-use Rattle.smil_instances.proofs.Growth.{sources_stay, takes_none, takes_then}
-use Rattle.smil_instances.proofs.Spreading.{both_sides, no_rows, rows_next}
+use Rattle.smil_instances.proofs.EmptyRows.{at_place}
+use Rattle.smil_instances.proofs.CellGrowth.{sources_stay, takes_none, takes_then}
+use Rattle.smil_instances.proofs.CellSpreading.{both_sides, no_rows, rows_next}
 use Rattle.smil_instances.proofs.fill.fill.Goals as goal
 
 pub loop-row-init : goal.loop-row-init

@@ -1,6 +1,6 @@
 use Rattle.std.proofs.Common.{ap, ◌∙◌, ◌++◌, [], ◌∷◌, List, Some}
 use Rattle.smil_instances.specs.declared.source.Source.{Source}
-use Rattle.smil_instances.proofs.Begun.{default_begins}
+use Rattle.smil_instances.proofs.EmptyRows.{default_begins}
 use Rattle.smil_instances.proofs.fresh.begin_sources.Goals as goal
 
 pub returns : goal.returns

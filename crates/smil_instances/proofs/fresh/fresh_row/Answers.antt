@@ -1,5 +1,5 @@
 use Rattle.std.proofs.Common.{ap, ◌∙◌, Some}
-use Rattle.smil_instances.proofs.Begun.{row_is}
+use Rattle.smil_instances.proofs.EmptyRows.{row_is}
 use Rattle.smil_instances.proofs.fresh.fresh_row.Goals as goal
 
 pub returns : goal.returns

@@ -3,8 +3,8 @@ use Rattle.std.specs.Prelude.{is_some, option_map}
 use Rattle.smil_model.specs.declared.document.Node.{Node}
 use Rattle.smil_model.specs.document.Document.{elements, previous_child, time_parent, serial_of}
 use Rattle.smil_instances.specs.Spread.{fresh_row}
-use Rattle.smil_instances.proofs.Begun.{at_place, element_at, mapped_at, same_some}
-use Rattle.smil_instances.proofs.Lists.{map_next}
+use Rattle.smil_instances.proofs.EmptyRows.{at_place, element_at, mapped_at, same_some}
+use Rattle.smil_instances.proofs.ListsMade.{map_next}
 use Rattle.smil_instances.proofs.fresh.fresh_rows.Goals as goal
 
 pub fresh_row-requires-clause-known : goal.fresh_row-requires-clause-known

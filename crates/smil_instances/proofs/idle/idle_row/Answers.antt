@@ -4,7 +4,7 @@ use Rattle.std.specs.Option.{option_map}
 use Rattle.smil_model.specs.declared.document.Attrs.{Attrs}
 use Rattle.smil_model.specs.declared.document.Node.{Node}
 use Rattle.smil_instance_rows.specs.Rows.{ElementTimes}
-use Rattle.smil_instances.proofs.Starting.{row_made}
+use Rattle.smil_instances.proofs.StartingRows.{row_made}
 use Rattle.smil_instances.proofs.idle.idle_row.Goals as goal
 
 pub push_ends-requires : goal.push_ends-requires

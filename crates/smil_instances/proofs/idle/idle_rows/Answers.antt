@@ -2,15 +2,15 @@ use Rattle.std.proofs.Common.{◌≡◌, ◌∙◌, sym, ap, List, [], ◌∷◌
 use Rattle.std.proofs.lemmas.List.{length-map, take_all}
 use Rattle.smil_model.specs.declared.document.Node.{Node}
 use Rattle.smil_model.specs.document.Document.{elements}
-use Rattle.smil_tree.proofs.Making.{fresh_at}
+use Rattle.smil_tree.proofs.TreeMade.{fresh_at}
 use Rattle.smil_instance_rows.specs.Readings.{index_in}
 use Rattle.smil_instance_rows.specs.Rows.{ElementTimes}
 use Rattle.smil_instances.specs.SettledTimes.{row_of}
 use Rattle.smil_instances.specs.Intake.{history_of}
-use Rattle.smil_instances.proofs.Begun.{at_place, element_at}
-use Rattle.smil_instances.proofs.Lists.{map_next}
-use Rattle.smil_instances.proofs.Placed.{row_absent}
-use Rattle.smil_instances.proofs.Siblings.{distinct_elements}
+use Rattle.smil_instances.proofs.EmptyRows.{at_place, element_at}
+use Rattle.smil_instances.proofs.ListsMade.{map_next}
+use Rattle.smil_instances.proofs.AbsentRows.{row_absent}
+use Rattle.smil_instances.proofs.SiblingBefore.{distinct_elements}
 use Rattle.smil_instances.proofs.idle.idle_rows.Goals as goal
 
 pub idle_row-requires-clause-element : goal.idle_row-requires-clause-element

@@ -3,7 +3,7 @@ use Rattle.smil_model.specs.declared.document.Edge.TheVariants.{Begin}
 use Rattle.smil_instances.specs.SettledTimes.{instances_of}
 use Rattle.smil_instances.specs.Idle.{with_items}
 use Rattle.smil_instances.specs.Intake.{history_of}
-use Rattle.smil_instances.proofs.Starting.{begin_items, on_ok}
+use Rattle.smil_instances.proofs.StartingRows.{begin_items, on_ok}
 use Rattle.smil_instances.proofs.idle.push_begins.Goals as goal
 
 pub returns-in-Some : goal.returns-in-Some

@@ -1,7 +1,7 @@
 use Rattle.std.proofs.Common.{◌∙◌, ap}
 use Rattle.smil_model.specs.declared.document.Edge.TheVariants.{Begin}
 use Rattle.smil_instances.specs.Idle.{with_items}
-use Rattle.smil_instances.proofs.Starting.{default_kept, on_ok}
+use Rattle.smil_instances.proofs.StartingRows.{default_kept, on_ok}
 use Rattle.smil_instances.proofs.idle.push_default.Goals as goal
 
 pub returns : goal.returns

@@ -2,7 +2,7 @@ use Rattle.std.proofs.Common.{◌∙◌, ap, sym, ◌++◌, [], ◌∷◌}
 use Rattle.smil_instance_rows.specs.Cells.{list_of, with_list}
 use Rattle.smil_instance_rows.specs.Rows.{ElementTimes, instance_at}
 use Rattle.smil_instances.specs.Idle.{idle_kept, with_items}
-use Rattle.smil_instances.proofs.Starting.{item_added, on_ok}
+use Rattle.smil_instances.proofs.StartingRows.{item_added, on_ok}
 use Rattle.smil_instances.proofs.idle.push_item.Goals as goal
 
 pub returns-in-Some : goal.returns-in-Some

@@ -8,8 +8,8 @@ use Rattle.smil_instance_rows.specs.Rows.{ElementTimes}
 use Rattle.smil_instances.specs.SettledTimes.{instances_of}
 use Rattle.smil_instances.specs.Idle.{idle_kept, with_items}
 use Rattle.smil_instances.specs.Intake.{history_of}
-use Rattle.smil_instances.proofs.Lists.{map_next}
-use Rattle.smil_instances.proofs.Starting.{items_grow, more_items, source_here}
+use Rattle.smil_instances.proofs.ListsMade.{map_next}
+use Rattle.smil_instances.proofs.StartingRows.{items_grow, more_items, source_here}
 use Rattle.smil_instances.proofs.idle.push_list.Goals as goal
 
 pub loop-at-preserved : goal.loop-at-preserved

@@ -6,7 +6,7 @@ use Rattle.smil_instance_rows.specs.Changes.{with_adds}
 use Rattle.smil_instance_rows.specs.Notes.{GoesBackTheSame, HasNoted}
 use Rattle.smil_instances.specs.Intake.{shape_of}
 use Rattle.smil_instances.proofs.Going.{added_back, undone_back}
-use Rattle.smil_instances.proofs.Updates.{adds_shape}
+use Rattle.smil_instances.proofs.CellUpdates.{adds_shape}
 use Rattle.smil_instances.proofs.intake.add_noted.Goals as goal
 
 pub note_losses-requires-clause-rows : goal.note_losses-requires-clause-rows

@@ -4,7 +4,7 @@ use Rattle.smil_laws.specs.Resolved.{is_opening}
 use Rattle.smil_instances.specs.Sources.{AreThose}
 use Rattle.smil_instances.specs.Dependents.{cells_in}
 use Rattle.smil_instances.specs.Intake.{is_concerned_cell, keyed_by}
-use Rattle.smil_instances.proofs.Concerned.{those_keyed, those_of, those_unplaced}
+use Rattle.smil_instances.proofs.ConcernedCells.{those_keyed, those_of, those_unplaced}
 use Rattle.smil_instances.proofs.intake.concerned.Goals as goal
 
 pub returns-in-Some-index_of : goal.returns-in-Some-index_of

@@ -10,11 +10,11 @@ use Rattle.smil_instance_rows.specs.Changes.{with_adds, Fits}
 use Rattle.smil_instances.specs.Intake.{adds_to, history_of, is_concerned_cell, shape_of, with_remainders, with_trims, AreToItems}
 use Rattle.smil_instance_rows.specs.Notes.{rows_back}
 use Rattle.smil_instances.specs.Noted.{AreNoted, trimmed}
-use Rattle.smil_instances.proofs.Extents.{settled_shape}
+use Rattle.smil_instances.proofs.RowShapes.{settled_shape}
 use Rattle.smil_instances.proofs.Going.{added_go, trims_go}
-use Rattle.smil_instances.proofs.Hands.{at_hand, timely}
-use Rattle.smil_instances.proofs.Taken.{adds_fit, adds_to_items, taken_in, taken_in_added, those_have_items}
-use Rattle.smil_instances.proofs.Updates.{adds_shape}
+use Rattle.smil_instances.proofs.BeforeEntry.{at_hand, timely}
+use Rattle.smil_instances.proofs.RowsAfterEntry.{adds_fit, adds_to_items, taken_in, taken_in_added, those_have_items}
+use Rattle.smil_instances.proofs.CellUpdates.{adds_shape}
 use Rattle.smil_instances.proofs.intake.take_in.Goals as goal
 
 pub concerned-cells-requires-clause-rows : goal.concerned-cells-requires-clause-rows

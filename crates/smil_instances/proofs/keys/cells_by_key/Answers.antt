@@ -1,8 +1,8 @@
 use Rattle.std.proofs.Common.{◌≡◌, subst, ◌+◌, [], length, arith}
 use Rattle.smil_model.specs.declared.document.Edge.TheVariants.{Begin, End}
 use Rattle.smil_instances.specs.Keys.{TakesKeys, first_row_keys, is_for_key, row_keys, side_keys}
-use Rattle.smil_instances.proofs.Keyed.{all_keyed, keys_then}
-use Rattle.smil_instances.proofs.Spreading.{both_sides, row_there, rows_next}
+use Rattle.smil_instances.proofs.KeyCells.{all_keyed, keys_then}
+use Rattle.smil_instances.proofs.CellSpreading.{both_sides, row_there, rows_next}
 use Rattle.smil_instances.proofs.keys.cells_by_key.Goals as goal
 
 pub loop-row-preserved : goal.loop-row-preserved

@@ -1,7 +1,7 @@
 use Rattle.std.proofs.Common.{◌∙◌, ◌++◌, ◌∷◌, [], ap, List}
 use Rattle.smil_instance_rows.specs.declared.cell.Cell.{Cell}
 use Rattle.smil_instances.specs.Dependents.{keyed_in}
-use Rattle.smil_instances.proofs.Keyed.{room_more}
+use Rattle.smil_instances.proofs.KeyCells.{room_more}
 use Rattle.smil_instances.proofs.keys.make_room.Goals as goal
 
 pub loop-alloc-preserved : goal.loop-alloc-preserved

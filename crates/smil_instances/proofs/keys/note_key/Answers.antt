@@ -5,7 +5,7 @@ use Rattle.smil_instances.specs.declared.source.Source.{Source}
 use Rattle.smil_instances.specs.declared.source.Source.TheVariants as source
 use Rattle.smil_instance_rows.specs.declared.cell.Cell.{Cell}
 use Rattle.smil_instances.specs.Keys.{TakesKeys, goes_to_key}
-use Rattle.smil_instances.proofs.Keyed.{key_pushed}
+use Rattle.smil_instances.proofs.KeyCells.{key_pushed}
 use Rattle.smil_instances.proofs.keys.note_key.Goals as goal
 
 pub returns-in_ok-make_room-in-Key : goal.returns-in_ok-make_room-in-Key

@@ -6,8 +6,8 @@ use Rattle.smil_instances.specs.declared.source.Source.TheVariants as source
 use Rattle.smil_instances.specs.Dependents.{source_in, source_or, source_under, sources_of}
 use Rattle.smil_instances.specs.Keys.{first_keys, goes_to_key, is_for_key, side_keys}
 use Rattle.smil_instances.specs.Spread.{one_if}
-use Rattle.smil_instances.proofs.Keyed.{all_of_side, by_rows, keys_none, keys_same, keys_then}
-use Rattle.smil_instances.proofs.Spreading.{items_next, no_items}
+use Rattle.smil_instances.proofs.KeyCells.{all_of_side, by_rows, keys_none, keys_same, keys_then}
+use Rattle.smil_instances.proofs.CellSpreading.{items_next, no_items}
 use Rattle.smil_instances.proofs.keys.note_side.Goals as goal
 
 pub loop-item-init : goal.loop-item-init

@@ -1,4 +1,4 @@
-use Rattle.smil_instances.proofs.Bases.{is_element_of}
+use Rattle.smil_instances.proofs.NamedElements.{is_element_of}
 use Rattle.smil_instances.proofs.laws.bases_are_elements.Goals as goal
 
 pub returns : goal.returns

@@ -1,4 +1,4 @@
-use Rattle.smil_instances.proofs.EntryTimes.{taken_in}
+use Rattle.smil_instances.proofs.TimesAfterEntry.{taken_in}
 use Rattle.smil_instances.proofs.laws.entries_are_taken_in.Goals as goal
 
 pub returns : goal.returns

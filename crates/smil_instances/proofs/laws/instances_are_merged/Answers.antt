@@ -1,4 +1,4 @@
-use Rattle.smil_instances.proofs.Begins.{are_merged}
+use Rattle.smil_instances.proofs.ExpectedBegins.{are_merged}
 use Rattle.smil_instances.proofs.laws.instances_are_merged.Goals as goal
 
 pub returns : goal.returns

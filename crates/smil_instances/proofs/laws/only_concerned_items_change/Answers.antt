@@ -1,4 +1,4 @@
-use Rattle.smil_instances.proofs.Unconcerned.{unconcerned}
+use Rattle.smil_instances.proofs.UnconcernedItems.{unconcerned}
 use Rattle.smil_instances.proofs.laws.only_concerned_items_change.Goals as goal
 
 pub returns : goal.returns

@@ -2,7 +2,7 @@ use Rattle.std.proofs.Common.{sym, ◌∙◌, ap}
 use Rattle.smil_instance_rows.specs.Changes.{cell_of}
 use Rattle.smil_instances.specs.declared.remainder.Remainder.{Remainder}
 use Rattle.smil_instances.specs.Noted.{kept_by}
-use Rattle.smil_instances.proofs.Concerned.{base_there, cell_known, item_there, trimmed_here}
+use Rattle.smil_instances.proofs.ConcernedCells.{base_there, cell_known, item_there, trimmed_here}
 use Rattle.smil_instances.proofs.noting.loses.Goals as goal
 
 pub remainder_of-requires-clause-cell : goal.remainder_of-requires-clause-cell

@@ -3,7 +3,7 @@ use Rattle.std.specs.List.{AllByRecursion}
 use Rattle.std.proofs.lemmas.List.{take_all}
 use Rattle.smil_instance_rows.specs.declared.cell.Add.{Add}
 use Rattle.smil_instance_rows.proofs.Noted.{has_both, has_itself}
-use Rattle.smil_instance_rows.proofs.Tables.{blank}
+use Rattle.smil_instance_rows.proofs.CellChanges.{blank}
 use Rattle.smil_instances.specs.Intake.{history_of}
 use Rattle.smil_instances.specs.Noted.{IsNoted}
 use Rattle.smil_instances.proofs.Going.{cells_noted, each_next, still_noted}

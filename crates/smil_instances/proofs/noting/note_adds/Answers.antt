@@ -1,6 +1,6 @@
 use Rattle.std.proofs.Common.{inl, inr, take, arith}
 use Rattle.smil_instance_rows.proofs.Noted.{has_itself}
-use Rattle.smil_instance_rows.proofs.Tables.{blank, fits_at}
+use Rattle.smil_instance_rows.proofs.CellChanges.{blank, fits_at}
 use Rattle.smil_instances.proofs.Going.{adds_length, goes_next}
 use Rattle.smil_instances.proofs.noting.note_adds.Goals as goal
 use Rattle.smil_instances.proofs.noting.note_adds.Goals.{then-add-place+in_ok-note, else-add-place}

@@ -1,7 +1,7 @@
 use Rattle.std.proofs.Common.{subst}
 use Rattle.std.proofs.lemmas.List.{take_all}
 use Rattle.smil_instance_rows.proofs.Noted.{has_both, has_itself}
-use Rattle.smil_instance_rows.proofs.Tables.{no_cell}
+use Rattle.smil_instance_rows.proofs.CellChanges.{no_cell}
 use Rattle.smil_instances.specs.Intake.{history_of}
 use Rattle.smil_instances.specs.Noted.{AreNoted, IsNoted}
 use Rattle.smil_instances.proofs.Going.{each_next, still_noted}

@@ -1,6 +1,6 @@
 use Rattle.std.proofs.Common.{sym, ap, ◌∙◌, Some}
 use Rattle.smil_instances.specs.Occurrence.{occurs_in}
-use Rattle.smil_instances.proofs.Past.{before_of}
+use Rattle.smil_instances.proofs.EarlierHistory.{before_of}
 use Rattle.smil_instances.proofs.occurrence.occurs.Goals as goal
 
 pub returns-in-Repeat-Some : goal.returns-in-Repeat-Some

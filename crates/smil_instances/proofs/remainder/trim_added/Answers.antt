@@ -2,7 +2,7 @@ use Rattle.std.proofs.Common.{sym, ◌∙◌, ap, get_or, List}
 use Rattle.std.proofs.lemmas.List.Sums.{fold_more}
 use Rattle.smil_instance_rows.specs.declared.cell.Add.{Add}
 use Rattle.smil_instance_rows.specs.Rows.{ElementTimes}
-use Rattle.smil_instance_rows.proofs.Tables.{blank}
+use Rattle.smil_instance_rows.proofs.CellChanges.{blank}
 use Rattle.smil_instances.specs.Intake.{history_of, with_remainder}
 use Rattle.smil_instances.proofs.remainder.trim_added.Goals as goal
 

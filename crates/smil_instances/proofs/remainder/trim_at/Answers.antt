@@ -3,8 +3,8 @@ use Rattle.std.specs.Prelude.{map}
 use Rattle.smil_instance_rows.specs.Changes.{cell_of, with_cell}
 use Rattle.smil_instances.specs.Updates.{remaining}
 use Rattle.smil_instances.specs.Intake.{history_of, IsCellOf, shape_of}
-use Rattle.smil_instances.proofs.Extents.{cell_shape}
-use Rattle.smil_instances.proofs.Concerned.{base_there, cell_known, item_there, trimmed_here}
+use Rattle.smil_instances.proofs.RowShapes.{cell_shape}
+use Rattle.smil_instances.proofs.ConcernedCells.{base_there, cell_known, item_there, trimmed_here}
 use Rattle.smil_instances.proofs.remainder.trim_at.Goals as goal
 
 pub trim-requires-clause-has : goal.trim-requires-clause-has

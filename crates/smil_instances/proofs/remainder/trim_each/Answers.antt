@@ -1,6 +1,6 @@
 use Rattle.std.proofs.Common.{sym, ◌∙◌, ap, get_or}
 use Rattle.std.proofs.lemmas.List.Sums.{fold_more}
-use Rattle.smil_instance_rows.proofs.Tables.{no_cell}
+use Rattle.smil_instance_rows.proofs.CellChanges.{no_cell}
 use Rattle.smil_instances.specs.Intake.{history_of, with_remainder}
 use Rattle.smil_instances.proofs.remainder.trim_each.Goals as goal
 

@@ -1,7 +1,7 @@
 use Rattle.std.proofs.Common.{sym, ap, ◌∙◌}
 use Rattle.smil_instances.specs.Occurrence.{is_always}
-use Rattle.smil_instances.proofs.Targets.{known_node, restart_told}
-use Rattle.smil_instances.proofs.Sensitive.{not_always}
+use Rattle.smil_instances.proofs.IdTargets.{known_node, restart_told}
+use Rattle.smil_instances.proofs.SensitiveItems.{not_always}
 use Rattle.smil_instances.proofs.sensitivity.always_restarts.Goals as goal
 
 pub restart_of-restart-requires : goal.restart_of-restart-requires

@@ -1,7 +1,7 @@
 use Rattle.std.proofs.Common.{sym, ap, ◌∙◌}
 use Rattle.smil_model.specs.document.Document.{has_id}
 use Rattle.std.specs.Str.{bytes_eq}
-use Rattle.smil_instances.proofs.Targets.{known_node, means_own}
+use Rattle.smil_instances.proofs.IdTargets.{known_node, means_own}
 use Rattle.smil_instances.proofs.sensitivity.bears.Goals as goal
 
 pub attrs-requires : goal.attrs-requires

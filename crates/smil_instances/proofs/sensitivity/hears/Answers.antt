@@ -2,9 +2,9 @@ use Rattle.std.proofs.Common.{◌≡◌, refl, sym, ap, ◌∙◌, Some, List}
 use Rattle.std.specs.Prelude.{◌&&◌}
 use Rattle.smil_model.specs.document.Document.{elements, node_at}
 use Rattle.smil_model.specs.declared.document.Node.{Node}
-use Rattle.smil_instances.proofs.Past.{before_of}
-use Rattle.smil_instances.proofs.Sensitive.{serial_is}
-use Rattle.smil_instances.proofs.Heard.{heard, sensitive_is, sensitive_to}
+use Rattle.smil_instances.proofs.EarlierHistory.{before_of}
+use Rattle.smil_instances.proofs.SensitiveItems.{serial_is}
+use Rattle.smil_instances.proofs.EventsHeard.{heard, sensitive_is, sensitive_to}
 use Rattle.smil_instances.proofs.sensitivity.hears.Goals as goal
 
 pub returns-then-is_awake : goal.returns-then-is_awake

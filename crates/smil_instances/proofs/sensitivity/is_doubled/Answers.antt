@@ -4,8 +4,8 @@ use Rattle.std.proofs.lemmas.List.{take_all}
 use Rattle.std.proofs.lemmas.Option.{slice_get-get_or}
 use Rattle.smil_model.specs.declared.document.Attrs.{Attrs}
 use Rattle.smil_model.specs.interval.Instances.{is_same_event}
-use Rattle.smil_instances.proofs.Targets.{known_node, attrs_of}
-use Rattle.smil_instances.proofs.BeginLists.{free_without, list_is, none_more, one_found}
+use Rattle.smil_instances.proofs.IdTargets.{known_node, attrs_of}
+use Rattle.smil_instances.proofs.BeginItems.{free_without, list_is, none_more, one_found}
 use Rattle.smil_instances.proofs.sensitivity.is_doubled.Goals as goal
 
 pub attrs-requires : goal.attrs-requires

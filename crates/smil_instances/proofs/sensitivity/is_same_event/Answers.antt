@@ -1,5 +1,5 @@
 use Rattle.std.proofs.Common.{sym, ◌∙◌}
-use Rattle.smil_instances.proofs.Targets.{means_known}
+use Rattle.smil_instances.proofs.IdTargets.{means_known}
 use Rattle.smil_instances.proofs.sensitivity.is_same_event.Goals as goal
 
 pub means-requires : goal.means-requires

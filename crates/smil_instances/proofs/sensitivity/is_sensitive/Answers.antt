@@ -3,7 +3,7 @@ use Rattle.std.specs.Prelude.{not, ◌&&◌}
 use Rattle.std.specs.List.{list_any}
 use Rattle.smil_model.specs.document.Defaults.{begin_list, restart_of}
 use Rattle.smil_model.specs.interval.Instances.{is_same_event}
-use Rattle.smil_instances.proofs.Sensitive.{sensitive_end, end_as, serial_is}
+use Rattle.smil_instances.proofs.SensitiveItems.{sensitive_end, end_as, serial_is}
 use Rattle.smil_instances.proofs.sensitivity.is_sensitive.Goals as goal
 use Rattle.smil_instances.proofs.sensitivity.is_sensitive.Goals.{then-always_restarts, else-always_restarts}
 

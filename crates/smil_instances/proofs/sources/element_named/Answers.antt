@@ -2,7 +2,7 @@ use Rattle.std.proofs.Common.{ap, ◌∙◌}
 use Rattle.smil_model.specs.declared.order.Who.TheVariants.{Id}
 use Rattle.smil_model.specs.document.Document.{serial_of}
 use Rattle.smil_instances.specs.Spread.{element_of}
-use Rattle.smil_instances.proofs.Named.{named_is}
+use Rattle.smil_instances.proofs.NodesFound.{named_is}
 use Rattle.smil_instances.proofs.sources.element_named.Goals as goal
 
 pub returns : goal.returns

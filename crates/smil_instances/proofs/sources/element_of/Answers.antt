@@ -2,7 +2,7 @@ use Rattle.std.proofs.Common.{sym, ap, ◌∙◌, true, false}
 use Rattle.std.specs.Prelude.{is_some}
 use Rattle.smil_model.specs.document.Valid.{kind_of}
 use Rattle.smil_model.specs.shown.Orders.{node_of}
-use Rattle.smil_instances.proofs.Named.{name_found, only_of, some_serial}
+use Rattle.smil_instances.proofs.NodesFound.{name_found, only_of, some_serial}
 use Rattle.smil_instances.proofs.sources.element_of.Goals as goal
 
 pub kind-requires : goal.kind-requires

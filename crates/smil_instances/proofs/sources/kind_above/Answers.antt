@@ -2,7 +2,7 @@ use Rattle.std.proofs.Common.{ap, ◌∙◌}
 use Rattle.std.specs.Prelude.{is_some}
 use Rattle.smil_model.specs.document.Document.{time_parent}
 use Rattle.smil_model.specs.document.Valid.{kind_of}
-use Rattle.smil_instances.proofs.Named.{parent_found, some_serial}
+use Rattle.smil_instances.proofs.NodesFound.{parent_found, some_serial}
 use Rattle.smil_instances.proofs.sources.kind_above.Goals as goal
 
 pub kind-requires : goal.kind-requires

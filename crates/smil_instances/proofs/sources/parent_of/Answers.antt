@@ -1,6 +1,6 @@
 use Rattle.std.proofs.Common.{arith}
 use Rattle.smil_model.specs.document.Document.{node_at}
-use Rattle.smil_instances.proofs.Named.{no_parent, some_serial}
+use Rattle.smil_instances.proofs.NodesFound.{no_parent, some_serial}
 use Rattle.smil_instances.proofs.sources.parent_of.Goals as goal
 
 pub time_parent-requires : goal.time_parent-requires

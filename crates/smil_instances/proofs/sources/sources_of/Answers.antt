@@ -4,7 +4,7 @@ use Rattle.std.proofs.lemmas.List.{take_all}
 use Rattle.std.proofs.lemmas.Option.{slice_get-get_or}
 use Rattle.smil_model.specs.declared.document.Item.{Item}
 use Rattle.smil_instances.specs.Sources.{source_of}
-use Rattle.smil_instances.proofs.Lists.{map_next}
+use Rattle.smil_instances.proofs.ListsMade.{map_next}
 use Rattle.smil_instances.proofs.sources.sources_of.Goals as goal
 
 pub loop-item-preserved : goal.loop-item-preserved

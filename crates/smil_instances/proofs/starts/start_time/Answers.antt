@@ -1,7 +1,7 @@
 use Rattle.std.proofs.Common.{◌∙◌, ap, Some, w64}
 use Rattle.std.proofs.lemmas.Int.{to_z-of_z}
 use Rattle.smil_instances.specs.Contribution.{start_time}
-use Rattle.smil_instances.proofs.Births.{started_under, unstarted}
+use Rattle.smil_instances.proofs.BirthGifts.{started_under, unstarted}
 use Rattle.smil_instances.proofs.starts.start_time.Goals as goal
 
 pub returns-in-None : goal.returns-in-None

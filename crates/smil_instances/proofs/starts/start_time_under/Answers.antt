@@ -3,8 +3,8 @@ use mir.Syntax.{w64}
 use mir.Val.{SFits}
 use Rattle.smil_model.specs.diary.Clocks.{outer, run}
 use Rattle.smil_instance_rows.specs.Rows.{instance_at}
-use Rattle.smil_instances.proofs.Births.{began_starts, repeated_starts}
-use Rattle.smil_instances.proofs.Sums.{carried_is, moved_is, read_at}
+use Rattle.smil_instances.proofs.BirthGifts.{began_starts, repeated_starts}
+use Rattle.smil_instances.proofs.SumsFit.{carried_is, moved_is, read_at}
 use Rattle.smil_instances.proofs.starts.start_time_under.Goals as goal
 
 pub returns-in-Began : goal.returns-in-Began

@@ -3,7 +3,7 @@ use Rattle.std.specs.Prelude.{slice_get, filter, int_lt}
 use Rattle.std.proofs.lemmas.Int.{to_z-of_z}
 use mir.Val.{SFits}
 use Rattle.smil_model.specs.declared.times.Time.TheVariants.{At}
-use Rattle.smil_interval.proofs.Searches.{first_is, first_none}
+use Rattle.smil_interval.proofs.IntervalSearch.{first_is, first_none}
 use Rattle.smil_interval.proofs.end.first_after.Goals as goal
 
 pub returns-in-Some : goal.returns-in-Some

@@ -4,7 +4,7 @@ use Rattle.std.proofs.lemmas.Int.{to_z-of_z}
 use mir.Val.{SFits}
 use Rattle.smil_model.specs.Times.{greatest_time}
 use Rattle.smil_model.specs.interval.Intervals.{limit_of}
-use Rattle.smil_interval.proofs.Limits.{limit_is}
+use Rattle.smil_interval.proofs.EndLimit.{limit_is}
 use Rattle.smil_interval.proofs.end.given_limit.Goals as goal
 
 pub returns-in-Some : goal.returns-in-Some

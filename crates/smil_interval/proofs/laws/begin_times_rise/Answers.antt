@@ -3,7 +3,7 @@ use Rattle.smil_model.specs.declared.document.Edge.TheVariants.{Begin}
 use Rattle.smil_model.specs.Times.{numbers}
 use Rattle.smil_model.specs.document.Defaults.{begin_list}
 use Rattle.smil_model.specs.interval.Instances.{item_times}
-use Rattle.smil_model.proofs.Rising.{rising_rises}
+use Rattle.smil_model.proofs.RisingLists.{rising_rises}
 use Rattle.smil_interval.proofs.laws.begin_times_rise.Goals as goal
 
 pub returns : goal.returns

@@ -1,8 +1,8 @@
 use Rattle.std.proofs.Common.{rules, tests}
 use Rattle.std.specs.Prelude.{int_le, int_lt}
 use Rattle.std.proofs.lemmas.List.Sorted.{IsPartitionPoint-from_clause}
-use Rattle.smil_interval.proofs.Parts.{part_is_filter, part_ordered, up_to_parted}
-use Rattle.smil_model.proofs.Orders.{not_le_is_lt}
+use Rattle.smil_interval.proofs.SearchParts.{part_is_filter, part_ordered, up_to_parted}
+use Rattle.smil_model.proofs.NumberOrders.{not_le_is_lt}
 use Rattle.smil_interval.proofs.rising.after.Goals as goal
 
 pub returns-clause-part : goal.returns-clause-part

@@ -3,8 +3,8 @@ use Rattle.std.specs.Prelude.{not}
 use Rattle.std.proofs.lemmas.List.Sorted.{IsPartitionPoint-from_clause}
 use Rattle.smil_model.specs.Times.{time_le}
 use Rattle.smil_model.specs.interval.Intervals.{counts_from}
-use Rattle.smil_interval.proofs.Ordered.{twice_not}
-use Rattle.smil_interval.proofs.Parts.{part_is_filter, part_ordered, uncounted_parted}
+use Rattle.smil_interval.proofs.OrderedLists.{twice_not}
+use Rattle.smil_interval.proofs.SearchParts.{part_is_filter, part_ordered, uncounted_parted}
 use Rattle.smil_interval.proofs.rising.counting.Goals as goal
 
 pub returns-clause-part : goal.returns-clause-part

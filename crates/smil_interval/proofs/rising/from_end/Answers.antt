@@ -4,8 +4,8 @@ use Rattle.std.proofs.lemmas.List.Sorted.{IsPartitionPoint-from_clause}
 use Rattle.smil_model.specs.declared.times.Time.TheVariants.{At}
 use Rattle.smil_model.specs.Times.{time_le}
 use Rattle.smil_model.specs.interval.Intervals.{is_from, after_end}
-use Rattle.smil_interval.proofs.Ordered.{twice_not}
-use Rattle.smil_interval.proofs.Parts.{part_is_filter, part_ordered, before_parted}
+use Rattle.smil_interval.proofs.OrderedLists.{twice_not}
+use Rattle.smil_interval.proofs.SearchParts.{part_is_filter, part_ordered, before_parted}
 use Rattle.smil_interval.proofs.rising.from_end.Goals as goal
 
 pub returns-clause-part : goal.returns-clause-part

@@ -1,7 +1,7 @@
 use Rattle.std.proofs.Common.{◌∙◌, ap, sym}
 use Rattle.std.specs.Prelude.{filter}
 use Rattle.smil_model.specs.interval.Intervals.{counts_after}
-use Rattle.smil_interval.proofs.Parts.{all_count}
+use Rattle.smil_interval.proofs.SearchParts.{all_count}
 use Rattle.smil_interval.proofs.rising.not_passed.Goals as goal
 
 pub returns-in-None-clause-part : goal.returns-in-None-clause-part

@@ -5,9 +5,9 @@ use mir.Val.{SFits}
 use Rattle.smil_model.specs.interval.Intervals.{is_from, after_end, is_accepted, interval_end}
 use Rattle.smil_interval.specs.Rising.{IsRising}
 use Rattle.smil_interval.specs.Next.{interval_to}
-use Rattle.smil_model.proofs.Rising.{rest_rises}
-use Rattle.smil_interval.proofs.Ordered.{shorter}
-use Rattle.smil_interval.proofs.Searches.{rejected_interval}
+use Rattle.smil_model.proofs.RisingLists.{rest_rises}
+use Rattle.smil_interval.proofs.OrderedLists.{shorter}
+use Rattle.smil_interval.proofs.IntervalSearch.{rejected_interval}
 use Rattle.smil_interval.proofs.search.first_interval.Goals as goal
 
 pub from_end-rest-requires : goal.from_end-rest-requires

@@ -4,7 +4,7 @@ use Rattle.std.proofs.lemmas.Int.{to_z-of_z}
 use mir.Val.{SFits}
 use Rattle.smil_model.specs.interval.Intervals.{is_from, after_end, counts_after, interval_end}
 use Rattle.smil_interval.specs.Next.{interval_to}
-use Rattle.smil_interval.proofs.Searches.{next_is, next_none}
+use Rattle.smil_interval.proofs.IntervalSearch.{next_is, next_none}
 use Rattle.smil_interval.proofs.search.interval_from.Goals as goal
 
 pub returns-in-Some : goal.returns-in-Some

@@ -1,4 +1,4 @@
-use Rattle.smil_laws.proofs.Further.{is_past}
+use Rattle.smil_laws.proofs.CourseFurther.{is_past}
 use Rattle.smil_laws.specs.Agreement.{course_on}
 use Rattle.smil_laws.proofs.courses.reached_is_past.Goals as goal
 

@@ -1,4 +1,4 @@
-use Rattle.smil_laws.proofs.Back.{reaches_back}
+use Rattle.smil_laws.proofs.CourseEarlier.{reaches_back}
 use Rattle.smil_laws.proofs.courses.reaches_back.Goals as goal
 
 pub returns : goal.returns

@@ -1,4 +1,4 @@
-use Rattle.smil_laws.proofs.Through.{agrees_through_begin}
+use Rattle.smil_laws.proofs.DiaryThroughBegin.{agrees_through_begin}
 use Rattle.smil_laws.proofs.laws.diaries_agree_through_begin.Goals as goal
 
 pub returns : goal.returns

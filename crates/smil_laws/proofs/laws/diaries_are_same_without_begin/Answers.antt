@@ -1,4 +1,4 @@
-use Rattle.smil_laws.proofs.Through.{same_unless_begun}
+use Rattle.smil_laws.proofs.DiaryThroughBegin.{same_unless_begun}
 use Rattle.smil_laws.proofs.laws.diaries_are_same_without_begin.Goals as goal
 
 pub returns : goal.returns

@@ -1,4 +1,4 @@
-use Rattle.smil_laws.proofs.Spared.{steps_agree}
+use Rattle.smil_laws.proofs.SparedSteps.{steps_agree}
 use Rattle.smil_laws.proofs.laws.next_step_is_same_before_begin.Goals as goal
 
 pub returns : goal.returns

@@ -1,4 +1,4 @@
-use Rattle.smil_laws.proofs.Migrating.{opening_same}
+use Rattle.smil_laws.proofs.LargerLimits.{opening_same}
 use Rattle.smil_laws.proofs.laws.openings_migrate.Goals as goal
 
 pub returns : goal.returns

@@ -1,4 +1,4 @@
-use Rattle.smil_laws.proofs.Migrating.{outcome_same}
+use Rattle.smil_laws.proofs.LargerLimits.{outcome_same}
 use Rattle.smil_laws.proofs.laws.outcomes_migrate.Goals as goal
 
 pub returns : goal.returns

@@ -1,4 +1,4 @@
-use Rattle.smil_laws.proofs.Cutting.{reaches_at_last}
+use Rattle.smil_laws.proofs.CourseCut.{reaches_at_last}
 use Rattle.smil_laws.proofs.laws.reaches_by_its_log.Goals as goal
 
 pub returns : goal.returns

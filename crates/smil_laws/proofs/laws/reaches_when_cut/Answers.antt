@@ -1,4 +1,4 @@
-use Rattle.smil_laws.proofs.Cutting.{reaches_when_cut}
+use Rattle.smil_laws.proofs.CourseCut.{reaches_when_cut}
 use Rattle.smil_laws.proofs.laws.reaches_when_cut.Goals as goal
 
 pub returns : goal.returns

@@ -1,4 +1,4 @@
-use Rattle.smil_laws.proofs.Settled.{come_to_rest}
+use Rattle.smil_laws.proofs.SettledRounds.{come_to_rest}
 use Rattle.smil_laws.proofs.laws.rounds_come_to_rest.Goals as goal
 
 pub returns : goal.returns

@@ -1,4 +1,4 @@
-use Rattle.smil_laws.proofs.Agreed.{agrees_until_begun}
+use Rattle.smil_laws.proofs.ResolutionsAgree.{agrees_until_begun}
 use Rattle.smil_laws.proofs.laws.steps_agree_until_begin.Goals as goal
 
 pub returns : goal.returns

@@ -1,4 +1,4 @@
-use Rattle.smil_laws.proofs.Unreached.{leaves_beyond_reach}
+use Rattle.smil_laws.proofs.UnreachedIntervals.{leaves_beyond_reach}
 use Rattle.smil_laws.proofs.laws.unreached_intervals_stay.Goals as goal
 
 pub returns : goal.returns

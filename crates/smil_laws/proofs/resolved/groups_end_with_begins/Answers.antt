@@ -1,4 +1,4 @@
-use Rattle.smil_laws.proofs.Grouped.{group_closes}
+use Rattle.smil_laws.proofs.GroupEntries.{group_closes}
 use Rattle.smil_laws.proofs.resolved.groups_end_with_begins.Goals as goal
 
 pub returns : goal.returns

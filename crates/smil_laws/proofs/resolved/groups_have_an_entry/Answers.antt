@@ -1,4 +1,4 @@
-use Rattle.smil_laws.proofs.Grouped.{group_filled}
+use Rattle.smil_laws.proofs.GroupEntries.{group_filled}
 use Rattle.smil_laws.proofs.resolved.groups_have_an_entry.Goals as goal
 
 pub returns : goal.returns

@@ -1,4 +1,4 @@
-use Rattle.smil_laws.proofs.Longer.{may_be_longer}
+use Rattle.smil_laws.proofs.LongerLogs.{may_be_longer}
 use Rattle.smil_laws.proofs.stays.log_may_be_longer.Goals as goal
 
 pub returns : goal.returns

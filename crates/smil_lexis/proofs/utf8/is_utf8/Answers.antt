@@ -1,4 +1,4 @@
-use Rattle.smil_lexis.proofs.Encoded.{valid, invalid}
+use Rattle.smil_lexis.proofs.Utf8Tests.{valid, invalid}
 use Rattle.smil_lexis.proofs.utf8.is_utf8.Goals as goal
 
 pub returns-in-Ok : goal.returns-in-Ok

@@ -3,11 +3,11 @@ use Rattle.std.specs.Prelude.{slice_get, Some}
 use Rattle.std.proofs.lemmas.List.{append-nil, drop_all}
 use Rattle.smil_model.specs.declared.document.Node.{Node}
 use Rattle.smil_model.specs.document.Words.{Begins}
-use Rattle.smil_model.proofs.Growing.{begins_by, begins_itself}
+use Rattle.smil_model.proofs.GrowingTexts.{begins_by, begins_itself}
 use Rattle.smil_outline.specs.Open.{upwards}
 use Rattle.smil_outline.specs.Written.{nodes_text}
-use Rattle.smil_outline.proofs.Walks.{IsWalkedTo, begins_more, can_write_at, is_shallow, text_behind, text_ends, text_goes_on, walk_goes_on, walk_starts}
-use Rattle.smil_tree.proofs.Walks.{at_place, walk_begun, walk_on, walk_over}
+use Rattle.smil_outline.proofs.DepthWalk.{IsWalkedTo, begins_more, can_write_at, is_shallow, text_behind, text_ends, text_goes_on, walk_goes_on, walk_starts}
+use Rattle.smil_tree.proofs.NodeWalks.{at_place, walk_begun, walk_on, walk_over}
 use Rattle.smil_live.proofs.outlines.put_nodes.Goals as goal
 use Rattle.smil_live.proofs.outlines.put_nodes.Goals.{In-Some}
 

@@ -2,8 +2,8 @@ use Rattle.std.proofs.Common.{◌≡◌, ◌++◌, take, drop, length, reverse}
 use Rattle.smil_model.specs.document.Words.{Begins}
 use Rattle.smil_outline.specs.Open.{upwards}
 use Rattle.smil_outline.specs.Written.{nodes_text}
-use Rattle.smil_outline.proofs.Walks.{IsWalkedTo, text_behind}
-use Rattle.smil_tree.proofs.Walks.{Walked}
+use Rattle.smil_outline.proofs.DepthWalk.{IsWalkedTo, text_behind}
+use Rattle.smil_tree.proofs.NodeWalks.{Walked}
 use Rattle.smil_live.proofs.outlines.put_nodes.Given as goal
 
 abbrev pub invariant-loop-node : goal.invariant-loop-node

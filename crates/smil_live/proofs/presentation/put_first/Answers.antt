@@ -3,7 +3,7 @@ use Rattle.smil_report.proofs.Growing.{begins_long, cut_again}
 use Rattle.smil_shown.specs.ViewTable.{ViewLists}
 use Rattle.smil_shown.proofs.AllViews.{of_nodes}
 use Rattle.smil_live.proofs.EditedPresentations.{where_err}
-use Rattle.smil_live.proofs.Opened.{told_load}
+use Rattle.smil_live.proofs.OpenedPresentations.{told_load}
 use Rattle.smil_live.proofs.TouchedViews.{where_not_err}
 use Rattle.smil_live.proofs.presentation.put_first.Goals as goal
 

@@ -8,11 +8,11 @@ use Rattle.smil_model.specs.happening.Resolution.{diary_of}
 use Rattle.smil_model.specs.shown.Orders.{course_of, as_of}
 use Rattle.smil_diary.specs.declared.fault.BookFault.TheVariants.{DiaryFull}
 use Rattle.smil_diary.specs.Refusals.{of_book}
-use Rattle.smil_tree.proofs.Results.{on_err}
+use Rattle.smil_tree.proofs.ResultClauses.{on_err}
 use Rattle.smil_live.specs.Moves.{IsTooFull, sought_of}
 use Rattle.smil_live.proofs.RebuiltCounts.{least_anew}
 use Rattle.smil_live.proofs.RebuiltSeek.{IsBack, arrived_back, back_by, may_go_back, most_back, not_after, not_beyond, refused_back, until_same}
-use Rattle.smil_live.proofs.Replays.{not_below}
+use Rattle.smil_live.proofs.ReplayedLogs.{not_below}
 use Rattle.smil_live.proofs.replay.cells_at.Given.{Over}
 use Rattle.smil_live.proofs.replay.cells_at.Goals as goal
 use Rattle.smil_live.proofs.replay.cells_at.Goals.{After-diary_until-len, In_ok-settle}

@@ -3,7 +3,7 @@ use Rattle.std.proofs.lemmas.List.{length-take-le}
 use Rattle.smil_model.specs.declared.diary.Entry.{Entry}
 use Rattle.smil_model.specs.document.Document.{elements}
 use Rattle.smil_model.specs.shown.Orders.{IsState, Presentation}
-use Rattle.smil_tree.proofs.Results.{on_err}
+use Rattle.smil_tree.proofs.ResultClauses.{on_err}
 use Rattle.smil_shown.proofs.PresentMoments.{from_zero}
 use Rattle.smil_live.specs.Moves.{IsReplayed, IsTooFull, IsUnderWay, edited_to, replay_of}
 use Rattle.smil_live.proofs.RebuiltCells.{moment_kept, replay_is}

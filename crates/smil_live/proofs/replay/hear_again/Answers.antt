@@ -6,13 +6,13 @@ use Rattle.smil_diary.specs.Refusals.{of_book}
 use Rattle.smil_model.specs.declared.diary.LogEntry.{LogEntry}
 use Rattle.smil_model.specs.shown.Orders.{Presentation, course_of, as_of}
 use Rattle.smil_model.specs.happening.Resolution.{diary_of}
-use Rattle.smil_tree.proofs.Results.{on_err}
+use Rattle.smil_tree.proofs.ResultClauses.{on_err}
 use Rattle.smil_cells.specs.CellsState.{with_logged}
 use Rattle.smil_live.specs.Moves.{IsTooFull, heard_at}
 use Rattle.smil_shown.proofs.SettledDiaries.{nothing_due}
 use Rattle.smil_live.proofs.CellCounts.{IsCounted}
 use Rattle.smil_live.proofs.RebuiltCounts.{counted_twice}
-use Rattle.smil_live.proofs.Replays.{fits, full_heard, not_below, refused_as}
+use Rattle.smil_live.proofs.ReplayedLogs.{fits, full_heard, not_below, refused_as}
 use Rattle.smil_live.proofs.replay.hear_again.Given.{Over}
 use Rattle.smil_live.proofs.replay.hear_again.Goals as goal
 use Rattle.smil_live.proofs.replay.hear_again.Goals.{In_ok-hear}

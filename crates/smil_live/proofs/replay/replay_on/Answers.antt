@@ -5,15 +5,15 @@ use Rattle.smil_model.specs.declared.diary.LogEntry.{LogEntry}
 use Rattle.smil_model.specs.declared.times.TheConstants.{HORIZON}
 use Rattle.smil_model.specs.happening.Resolution.{diary_of}
 use Rattle.smil_model.specs.shown.Orders.{Presentation, course_of, as_of}
-use Rattle.smil_model.proofs.Orders.{le_from}
+use Rattle.smil_model.proofs.NumberOrders.{le_from}
 use Rattle.smil_diary.specs.declared.fault.BookFault.TheVariants.{DiaryFull}
 use Rattle.smil_diary.specs.Refusals.{of_book}
-use Rattle.smil_tree.proofs.Results.{on_err}
+use Rattle.smil_tree.proofs.ResultClauses.{on_err}
 use Rattle.smil_live.specs.Moves.{IsTooFull, IsUnderWay, replay_of}
 use Rattle.smil_live.proofs.CellCounts.{IsCounted, counted_first}
-use Rattle.smil_live.proofs.Logs.{all_behind, behind_at}
+use Rattle.smil_live.proofs.LogParts.{all_behind, behind_at}
 use Rattle.smil_live.proofs.RebuiltCounts.{counted_more, named_since, none_since}
-use Rattle.smil_live.proofs.Replays.{arrived, fits, goes_on, heard_within, next_of, not_below, refused_there, too_full}
+use Rattle.smil_live.proofs.ReplayedLogs.{arrived, fits, goes_on, heard_within, next_of, not_below, refused_there, too_full}
 use Rattle.smil_live.proofs.replay.replay_on.Given.{Over}
 use Rattle.smil_live.proofs.replay.replay_on.Goals as goal
 use Rattle.smil_live.proofs.replay.replay_on.Goals.{In_ok-settle}

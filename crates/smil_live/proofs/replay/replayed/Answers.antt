@@ -2,7 +2,7 @@ use Rattle.std.proofs.Common.{refl, ap, subst, length, List}
 use Rattle.smil_model.specs.declared.diary.Entry.{Entry}
 use Rattle.smil_model.specs.document.Document.{Document, elements}
 use Rattle.smil_model.specs.shown.Orders.{Presentation}
-use Rattle.smil_tree.proofs.Results.{on_err}
+use Rattle.smil_tree.proofs.ResultClauses.{on_err}
 use Rattle.smil_live.specs.Moves.{IsTooFull, replay_of}
 use Rattle.smil_live.proofs.RebuiltCells.{made_of, new_way}
 use Rattle.smil_live.proofs.RebuiltCounts.{least_anew, most_rebuilt}

@@ -7,7 +7,7 @@ use Rattle.smil_house.specs.declared.screen.OnScreen.{OnScreen}
 use Rattle.smil_house.specs.declared.screen.Showing.{Showing}
 use Rattle.smil_house.specs.Screen.{position_by, showing_by}
 use Rattle.smil_past.specs.Past.{history_of}
-use Rattle.smil_element.proofs.Latest.{present_fits}
+use Rattle.smil_element.proofs.PresentMoment.{present_fits}
 use Rattle.smil_live.proofs.screen.on_screen.Goals as goal
 
 pub returns : goal.returns

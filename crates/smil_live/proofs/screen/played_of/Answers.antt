@@ -2,8 +2,8 @@ use Rattle.std.proofs.Common.{◌∙◌, sym, ap}
 use Rattle.std.specs.Prelude.{is_some}
 use Rattle.std.specs.Option.{option_copied}
 use Rattle.smil_past.specs.Past.{history_of}
-use Rattle.smil_past.proofs.Lent.{some_lent}
-use Rattle.smil_element.proofs.Told.{has_row, row_told}
+use Rattle.smil_past.proofs.ReferenceLent.{some_lent}
+use Rattle.smil_element.proofs.ElementReadings.{has_row, row_told}
 use Rattle.smil_live.proofs.screen.played_of.Goals as goal
 
 pub unwrap-requires : goal.unwrap-requires

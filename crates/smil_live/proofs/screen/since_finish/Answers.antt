@@ -4,8 +4,8 @@ use Rattle.std.proofs.lemmas.Int.{ints}
 use Rattle.smil_model.specs.diary.Clocks.{outer}
 use Rattle.smil_past.specs.Past.{history_of}
 use Rattle.smil_past.specs.declared.plays.facts.PlayFacts.{PlayFacts}
-use Rattle.smil_element.proofs.Latest.{present_fits}
-use Rattle.smil_element.proofs.Moments.{told_now}
+use Rattle.smil_element.proofs.PresentMoment.{present_fits}
+use Rattle.smil_element.proofs.LatestEntry.{told_now}
 use Rattle.smil_live.proofs.Screens.{finish_is}
 use Rattle.smil_live.proofs.screen.since_finish.Goals as goal
 

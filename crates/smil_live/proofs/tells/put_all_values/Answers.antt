@@ -2,8 +2,8 @@ use Rattle.std.proofs.Common.{refl, sym, ◌∙◌, ap, ◌++◌, append-nil}
 use Rattle.std.specs.Prelude.{flat_map, is_some}
 use Rattle.std.proofs.lemmas.List.{flat_map_more}
 use Rattle.smil_model.specs.shown.Answers.{values_on}
-use Rattle.smil_model.proofs.Growing.{begins_by}
-use Rattle.smil_tree.proofs.Walks.{is_found, walk_begun, walk_on, walk_over}
+use Rattle.smil_model.proofs.GrowingTexts.{begins_by}
+use Rattle.smil_tree.proofs.NodeWalks.{is_found, walk_begun, walk_on, walk_over}
 use Rattle.smil_shown.proofs.LineTexts.{begins_same}
 use Rattle.smil_live.proofs.tells.put_all_values.Goals as goal
 

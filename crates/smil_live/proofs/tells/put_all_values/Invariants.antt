@@ -3,7 +3,7 @@ use Rattle.std.specs.Prelude.{flat_map}
 use Rattle.smil_model.specs.declared.view.Layer.{Layer as AnyLayer}
 use Rattle.smil_model.specs.shown.Answers.{values_on}
 use Rattle.smil_model.specs.document.Words.{Begins}
-use Rattle.smil_tree.proofs.Walks.{Walked}
+use Rattle.smil_tree.proofs.NodeWalks.{Walked}
 use Rattle.smil_shown.specs.Sets.{AreSetsOf}
 use Rattle.smil_live.proofs.tells.put_all_values.Given as goal
 

@@ -1,8 +1,8 @@
 use Rattle.std.proofs.Common.{◌∙◌, ap, subst, ◌<◌, ◌++◌, List, get_or, length}
 use Rattle.smil_model.specs.declared.diary.Entry.{Entry}
 use Rattle.smil_model.specs.shown.Lines.{entry_line}
-use Rattle.smil_model.proofs.Growing.{begins_by}
-use Rattle.smil_stretch.proofs.Idle.{no_entry}
+use Rattle.smil_model.proofs.GrowingTexts.{begins_by}
+use Rattle.smil_stretch.proofs.IdleClocks.{no_entry}
 use Rattle.smil_shown.proofs.LineTexts.{begins_more, lines_more}
 use Rattle.smil_live.proofs.tells.put_entries.Goals as goal
 

@@ -3,8 +3,8 @@ use Rattle.std.specs.Prelude.{slice_get}
 use Rattle.std.proofs.lemmas.Option.{slice_get_within}
 use Rattle.smil_model.specs.declared.limits.TheConstants.{NODES}
 use Rattle.smil_model.specs.shown.Sandwich.{stack_of}
-use Rattle.smil_model.proofs.Growing.{begins_by}
-use Rattle.smil_cells.proofs.Parting.{no_gap}
+use Rattle.smil_model.proofs.GrowingTexts.{begins_by}
+use Rattle.smil_cells.proofs.LastEntryApart.{no_gap}
 use Rattle.smil_live.specs.Telling.{setter_text}
 use Rattle.smil_shown.proofs.SetLayers.{stack_few, stack_known}
 use Rattle.smil_shown.proofs.LineTexts.{begins_more, lines_all, lines_next}

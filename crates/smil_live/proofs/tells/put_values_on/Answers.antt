@@ -1,7 +1,7 @@
 use Rattle.std.proofs.Common.{◌≡◌, ◌∙◌, ap, ℕ, ◌<◌, List, ◌++◌, length, get_or, arith}
 use Rattle.smil_model.specs.shown.Answers.{top_text}
 use Rattle.smil_model.specs.shown.Sandwich.{names_on, stack_of}
-use Rattle.smil_model.proofs.Growing.{begins_by}
+use Rattle.smil_model.proofs.GrowingTexts.{begins_by}
 use Rattle.smil_shown.proofs.LineTexts.{begins_more, lines_more}
 use Rattle.smil_live.proofs.tells.put_values_on.Goals as goal
 

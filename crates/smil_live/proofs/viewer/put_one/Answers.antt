@@ -3,8 +3,8 @@ use mir.Val.{SFits}
 use Rattle.std.specs.Prelude.{IsSome, is_some}
 use Rattle.std.proofs.lemmas.Int.{to_z-of_z}
 use Rattle.smil_model.specs.document.Document.{Document, elements, node_at}
-use Rattle.smil_instances.proofs.Targets.{element_in}
-use Rattle.smil_tree.proofs.Changed.{serial_of as own_serial}
+use Rattle.smil_instances.proofs.IdTargets.{element_in}
+use Rattle.smil_tree.proofs.AttributesChanged.{serial_of as own_serial}
 use Rattle.smil_shown.specs.ViewTable.{has_view, view_now}
 use Rattle.smil_live.proofs.TouchedViews.{no_line, on_line}
 use Rattle.smil_live.proofs.viewer.put_one.Goals as goal

@@ -2,7 +2,7 @@ use Rattle.std.proofs.Common.{◌≡◌, refl, sym, ◌∙◌, ap, subst, ℕ, �
 use Rattle.smil_model.specs.declared.document.Node.{Node}
 use Rattle.smil_model.specs.document.Document.{elements, node_at}
 use Rattle.smil_model.specs.shown.Views.{blank}
-use Rattle.smil_tree.proofs.Changed.{serial_of as own_serial}
+use Rattle.smil_tree.proofs.AttributesChanged.{serial_of as own_serial}
 use Rattle.smil_shown.specs.ViewTable.{has_view, view_now}
 use Rattle.smil_live.proofs.TouchedViews.{IsFrom, IsTurnAt, is_from, known_next, left_first, told_end, told_last, touched_length, touched_views, turn, views_end, views_last, way_begins, way_on}
 use Rattle.smil_live.proofs.viewer.put_touched.Given.{Over}

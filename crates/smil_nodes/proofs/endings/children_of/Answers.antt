@@ -6,10 +6,10 @@ use Rattle.smil_model.specs.declared.document.Attrs.{Attrs}
 use Rattle.smil_model.specs.declared.document.Node.{Node}
 use Rattle.smil_model.specs.document.Document.{elements, time_children}
 use Rattle.smil_model.specs.interval.Current.{is_named_child}
-use Rattle.smil_laws.proofs.Rounds.{find-serial}
-use Rattle.smil_instances.proofs.Lists.{map_next}
-use Rattle.smil_element.proofs.Known.{child_at}
-use Rattle.smil_element.proofs.Told.{tree_attrs, tree_node}
+use Rattle.smil_laws.proofs.RoundsRest.{find-serial}
+use Rattle.smil_instances.proofs.ListsMade.{map_next}
+use Rattle.smil_element.proofs.KnownElements.{child_at}
+use Rattle.smil_element.proofs.ElementReadings.{tree_attrs, tree_node}
 use Rattle.smil_nodes.specs.Endings.{named_end}
 use Rattle.std.proofs.Common.{refl}
 use Rattle.smil_nodes.proofs.endings.children_of.Goals as goal

@@ -5,7 +5,7 @@ use Rattle.smil_model.specs.declared.interval.ChildEnd.{ChildEnd}
 use Rattle.smil_model.specs.document.Document.{elements, time_children}
 use Rattle.smil_rounds.specs.Rows.{row_without}
 use Rattle.smil_nodes.specs.Endings.{named_end, named_ends}
-use Rattle.smil_nodes.proofs.Housing.{ends_next, few_children, rowed_in, rows_count}
+use Rattle.smil_nodes.proofs.EndingPlaces.{ends_next, few_children, rowed_in, rows_count}
 use Rattle.smil_nodes.proofs.endings.ends_of.Goals as goal
 
 pub children_of-requires : goal.children_of-requires

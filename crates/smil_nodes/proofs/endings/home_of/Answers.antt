@@ -1,11 +1,11 @@
 use Rattle.std.proofs.Common.{◌≡◌, ◌∙◌, ap, sym, subst, ℕ, refl}
 use Rattle.std.specs.Prelude.{Option, IfSome, is_some, true}
 use Rattle.smil_model.specs.diary.Lawful.{has_element}
-use Rattle.smil_element.proofs.Told.{parent_known, tree_node}
-use Rattle.smil_rounds.proofs.Taking.{found, has_row}
+use Rattle.smil_element.proofs.ElementReadings.{parent_known, tree_node}
+use Rattle.smil_rounds.proofs.RowEvaluated.{found, has_row}
 use Rattle.smil_nodes.specs.Endings.{HasHome}
-use Rattle.smil_nodes.proofs.Housing.{among_children, is_home}
-use Rattle.smil_instances.proofs.Targets.{element_of}
+use Rattle.smil_nodes.proofs.EndingPlaces.{among_children, is_home}
+use Rattle.smil_instances.proofs.IdTargets.{element_of}
 use Rattle.smil_nodes.proofs.endings.home_of.Goals as goal
 
 pub time_parent-requires : goal.time_parent-requires

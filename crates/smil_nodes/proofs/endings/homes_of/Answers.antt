@@ -5,7 +5,7 @@ use Rattle.smil_model.specs.declared.document.Node.{Node}
 use Rattle.smil_model.specs.document.Document.{elements}
 use Rattle.smil_rounds.specs.Rows.{row_without}
 use Rattle.smil_nodes.specs.Endings.{HaveHomes}
-use Rattle.smil_nodes.proofs.Housing.{homes_next, rowed_in, rows_count}
+use Rattle.smil_nodes.proofs.EndingPlaces.{homes_next, rowed_in, rows_count}
 use Rattle.smil_nodes.proofs.endings.homes_of.Goals as goal
 
 pub home_of-requires-clause-element : goal.home_of-requires-clause-element

@@ -4,8 +4,8 @@ use Rattle.smil_model.specs.declared.document.Attrs.{Attrs}
 use Rattle.smil_model.specs.document.Defaults.{takes_implicit}
 use Rattle.smil_model.specs.document.Dependencies.{has_implicit_duration}
 use Rattle.smil_model.specs.document.Values.{has_endsync}
-use Rattle.smil_element.proofs.Known.{kind_is, known_node}
-use Rattle.smil_element.proofs.Told.{tree_attrs, tree_node}
+use Rattle.smil_element.proofs.KnownElements.{kind_is, known_node}
+use Rattle.smil_element.proofs.ElementReadings.{tree_attrs, tree_node}
 use Rattle.smil_nodes.proofs.endings.is_summed.Goals as goal
 
 pub kind-requires : goal.kind-requires

@@ -1,7 +1,7 @@
 use Rattle.std.proofs.Common.{◌∙◌, ap, sym}
 use Rattle.std.specs.Prelude.{is_some, slice_get}
 use Rattle.std.proofs.lemmas.Option.{same_Some}
-use Rattle.smil_nodes.proofs.Housing.{position_found}
+use Rattle.smil_nodes.proofs.EndingPlaces.{position_found}
 use Rattle.smil_nodes.proofs.endings.place_among.Goals as goal
 
 pub unwrap-requires : goal.unwrap-requires

@@ -1,6 +1,6 @@
 use Rattle.std.proofs.Common.{◌∙◌, ap, sym, List, length, arith}
 use Rattle.smil_rounds.specs.declared.current_rows.CurrentRow.{CurrentRow}
-use Rattle.smil_nodes.proofs.Undone.{row_past}
+use Rattle.smil_nodes.proofs.RowsPutBack.{row_past}
 use Rattle.smil_nodes.proofs.live.put_back.Goals as goal
 use Rattle.smil_nodes.proofs.live.put_back.Goals.{then-noted-rows, else-noted-rows}
 

@@ -1,6 +1,6 @@
 use Rattle.std.proofs.Common.{sym}
 use Rattle.std.proofs.lemmas.Result.{on_ok_weaker}
-use Rattle.smil_nodes.proofs.Noting.{one_noted}
+use Rattle.smil_nodes.proofs.RanksListed.{one_noted}
 use Rattle.smil_nodes.proofs.touched.note.Goals as goal
 
 pub returns-in-Some : goal.returns-in-Some

@@ -1,4 +1,4 @@
-use Rattle.smil_nodes.proofs.Noting.{all_noted, more_noted, none_taken}
+use Rattle.smil_nodes.proofs.RanksListed.{all_noted, more_noted, none_taken}
 use Rattle.smil_nodes.proofs.touched.note_all.Goals as goal
 
 pub loop-serial-init : goal.loop-serial-init

@@ -1,6 +1,6 @@
 use Rattle.std.proofs.Common.{◌∙◌, sym}
 use Rattle.std.proofs.lemmas.Result.{on_ok_weaker}
-use Rattle.smil_nodes.proofs.Noting.{element_noted, element_passed}
+use Rattle.smil_nodes.proofs.RanksListed.{element_noted, element_passed}
 use Rattle.smil_nodes.proofs.touched.note_element.Goals as goal
 
 pub returns-in_default : goal.returns-in_default

@@ -2,9 +2,9 @@ use Rattle.std.proofs.Common.{◌∙◌, ap, subst, drop, List}
 use Rattle.std.proofs.lemmas.List.{take_rest}
 use Rattle.smil_model.specs.declared.diary.Entry.{Entry}
 use Rattle.smil_laws.specs.Touched.{is_touched_by}
-use Rattle.smil_cells.proofs.Showing.{entries_from}
+use Rattle.smil_cells.proofs.ElementsShown.{entries_from}
 use Rattle.smil_nodes.specs.Noted.{AreNoted}
-use Rattle.smil_nodes.proofs.Noting.{all_entries, more_entries, no_entries}
+use Rattle.smil_nodes.proofs.RanksListed.{all_entries, more_entries, no_entries}
 use Rattle.smil_nodes.proofs.touched.note_touched.Goals as goal
 
 pub loop-entry-init : goal.loop-entry-init

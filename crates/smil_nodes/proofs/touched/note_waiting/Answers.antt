@@ -1,6 +1,6 @@
 use Rattle.std.proofs.Common.{◌∙◌, ap, ℕ, List, ◌++◌}
 use Rattle.smil_model.specs.reach.Reach.{down_key}
-use Rattle.smil_nodes.proofs.Noting.{all_waiting, more_waiting, none_waiting}
+use Rattle.smil_nodes.proofs.RanksListed.{all_waiting, more_waiting, none_waiting}
 use Rattle.smil_nodes.proofs.touched.note_waiting.Goals as goal
 
 pub loop-serial-init : goal.loop-serial-init

@@ -1,6 +1,6 @@
 use Rattle.std.proofs.Common.{take}
 use Rattle.smil_nodes.specs.Noted.{AreNoted}
-use Rattle.smil_nodes.proofs.Noting.{waits_among}
+use Rattle.smil_nodes.proofs.RanksListed.{waits_among}
 use Rattle.smil_nodes.proofs.touched.note_waiting.Given as goal
 
 abbrev pub invariant-loop-serial : goal.invariant-loop-serial

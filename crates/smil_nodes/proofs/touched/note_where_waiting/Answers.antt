@@ -4,7 +4,7 @@ use Rattle.smil_model.specs.declared.document.Node.{Node}
 use Rattle.smil_model.specs.document.Document.{Document, elements, node_at}
 use Rattle.smil_model.specs.document.Closure.{has}
 use Rattle.smil_model.specs.reach.Reach.{waiters}
-use Rattle.smil_nodes.proofs.Noting.{known, unranked_passed, waiting_noted, waiting_passed}
+use Rattle.smil_nodes.proofs.RanksListed.{known, unranked_passed, waiting_noted, waiting_passed}
 use Rattle.smil_nodes.proofs.touched.note_where_waiting.Goals as goal
 
 pub returns-in_default : goal.returns-in_default

@@ -2,7 +2,7 @@ use Rattle.std.proofs.Common.{◌∙◌, refl, sym, ap, subst, List, []}
 use Rattle.std.specs.Prelude.{is_some}
 use Rattle.smil_model.specs.declared.document.Node.{Node}
 use Rattle.smil_nodes.specs.Noted.{AreNoted, is_self_or_reader}
-use Rattle.smil_nodes.proofs.Noting.{all_within, node_known, none_noted, noted_then, nothing_within, reached_by}
+use Rattle.smil_nodes.proofs.RanksListed.{all_within, node_known, none_noted, noted_then, nothing_within, reached_by}
 use Rattle.smil_nodes.proofs.touched.note_within.Goals as goal
 
 pub returns-then-is_none : goal.returns-then-is_none

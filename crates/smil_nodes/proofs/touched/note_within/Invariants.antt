@@ -2,7 +2,7 @@ use Rattle.std.proofs.Common.{ℕ, List, filter}
 use Rattle.smil_model.specs.declared.document.Node.{Node}
 use Rattle.smil_model.specs.document.Document.{is_within}
 use Rattle.smil_nodes.specs.Noted.{AreNoted}
-use Rattle.smil_nodes.proofs.Noting.{reached_by}
+use Rattle.smil_nodes.proofs.RanksListed.{reached_by}
 use Rattle.smil_nodes.proofs.touched.note_within.Given as goal
 
 -- with what is left listed besides, all is

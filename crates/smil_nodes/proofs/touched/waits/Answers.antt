@@ -4,8 +4,8 @@ use Rattle.std.specs.List.{list_any}
 use Rattle.std.proofs.lemmas.Bool.{or_left}
 use Rattle.smil_model.specs.document.Defaults.{items_or}
 use Rattle.smil_model.specs.reach.Reach.{is_key_item}
-use Rattle.smil_past.proofs.Listing.{known_node}
-use Rattle.smil_nodes.proofs.Noting.{waits_by_items}
+use Rattle.smil_past.proofs.KnownNodes.{known_node}
+use Rattle.smil_nodes.proofs.RanksListed.{waits_by_items}
 use Rattle.smil_nodes.proofs.touched.waits.Goals as goal
 
 pub attrs-attrs-requires : goal.attrs-attrs-requires

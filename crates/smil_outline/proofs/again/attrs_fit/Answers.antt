@@ -1,5 +1,5 @@
-use Rattle.smil_outline.proofs.Fitting.{fits}
-use Rattle.smil_outline.proofs.Ranging.{ranges}
+use Rattle.smil_outline.proofs.FittingAttributes.{fits}
+use Rattle.smil_outline.proofs.ReadValuesFit.{ranges}
 use Rattle.smil_outline.proofs.again.attrs_fit.Goals as goal
 
 pub returns : goal.returns

@@ -1,4 +1,4 @@
-use Rattle.smil_outline.proofs.Printing.{outline_cut, outline_shown}
+use Rattle.smil_outline.proofs.PrintedBytes.{outline_cut, outline_shown}
 use Rattle.smil_outline.proofs.again.outline_lines.Goals as goal
 
 pub returns : goal.returns

@@ -1,4 +1,4 @@
-use Rattle.smil_outline.proofs.Validity.{outline_is_valid}
+use Rattle.smil_outline.proofs.OutlineValid.{outline_is_valid}
 use Rattle.smil_outline.proofs.again.outline_valid.Goals as goal
 
 pub returns : goal.returns

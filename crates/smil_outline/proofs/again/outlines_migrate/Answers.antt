@@ -1,4 +1,4 @@
-use Rattle.smil_outline.proofs.Migrating.{line_same, outline_same}
+use Rattle.smil_outline.proofs.LargerLimits.{line_same, outline_same}
 use Rattle.smil_outline.proofs.again.outlines_migrate.Goals as goal
 
 pub returns : goal.returns

@@ -1,4 +1,4 @@
-use Rattle.smil_outline.proofs.RoundTrip.{saved_outline_read}
+use Rattle.smil_outline.proofs.OutlineRoundTrip.{saved_outline_read}
 use Rattle.smil_outline.proofs.again.saved_again.Goals as goal
 
 pub returns : goal.returns

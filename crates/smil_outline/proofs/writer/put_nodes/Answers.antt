@@ -3,8 +3,8 @@ use Rattle.std.proofs.lemmas.List.{append-nil, drop_all}
 use Rattle.smil_model.specs.declared.document.Node.{Node}
 use Rattle.smil_model.specs.document.Words.{Begins}
 use Rattle.smil_outline.specs.Open.{upwards}
-use Rattle.smil_outline.proofs.Walks.{IsWalkedTo, text_behind, text_ends, walk_starts, item_at, walk_goes_on, text_goes_on, is_shallow, can_write_at, begins_more}
-use Rattle.smil_model.proofs.Growing.{begins_by, begins_itself}
+use Rattle.smil_outline.proofs.DepthWalk.{IsWalkedTo, text_behind, text_ends, walk_starts, item_at, walk_goes_on, text_goes_on, is_shallow, can_write_at, begins_more}
+use Rattle.smil_model.proofs.GrowingTexts.{begins_by, begins_itself}
 use Rattle.smil_outline.proofs.writer.put_nodes.Goals as goal
 
 pub put_next-requires-clause-can_write : goal.put_next-requires-clause-can_write

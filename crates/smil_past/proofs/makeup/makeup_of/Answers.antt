@@ -7,8 +7,8 @@ use Rattle.smil_model.specs.document.Defaults.{fill_by, max_of, min_of}
 use Rattle.smil_model.specs.interval.Current.{end_list_of}
 use Rattle.smil_model.specs.interval.Durations.{Bounds}
 use Rattle.smil_past.specs.Makeups.{stated_simple}
-use Rattle.smil_past.proofs.Makeups.{fill_is, makeup_is, restart_is}
-use Rattle.smil_past.proofs.References.{attrs_are}
+use Rattle.smil_past.proofs.ElementMakeup.{fill_is, makeup_is, restart_is}
+use Rattle.smil_past.proofs.ItemReferences.{attrs_are}
 use Rattle.smil_past.proofs.makeup.makeup_of.Goals as goal
 
 pub returns : goal.returns

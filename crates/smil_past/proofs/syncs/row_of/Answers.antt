@@ -4,9 +4,9 @@ use Rattle.smil_model.specs.declared.document.Node.{Node}
 use Rattle.smil_model.specs.declared.document.Attrs.{Attrs}
 use Rattle.smil_model.specs.declared.document.Edge.TheVariants.{Begin, End}
 use Rattle.smil_model.specs.document.Document.{elements, node_at}
-use Rattle.smil_instances.proofs.Siblings.{element_is}
+use Rattle.smil_instances.proofs.SiblingBefore.{element_is}
 use Rattle.smil_past.specs.Syncs.{syncs_of}
-use Rattle.smil_past.proofs.References.{attrs_are, kept_known, row_is, stands}
+use Rattle.smil_past.proofs.ItemReferences.{attrs_are, kept_known, row_is, stands}
 use Rattle.smil_past.proofs.syncs.row_of.Goals as goal
 
 pub returns : goal.returns

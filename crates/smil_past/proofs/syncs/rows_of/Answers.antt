@@ -1,8 +1,8 @@
 use Rattle.std.proofs.Common.{sym, ap, ◌∙◌, ◌++◌, [], ◌∷◌, map, take, List}
 use Rattle.std.specs.Prelude.{is_some}
 use Rattle.smil_model.specs.document.Document.{elements}
-use Rattle.smil_instances.proofs.Begun.{at_place, element_at}
-use Rattle.smil_instances.proofs.Lists.{map_next}
+use Rattle.smil_instances.proofs.EmptyRows.{at_place, element_at}
+use Rattle.smil_instances.proofs.ListsMade.{map_next}
 use Rattle.smil_past.specs.Syncs.{SyncRow, sync_row}
 use Rattle.smil_past.proofs.syncs.rows_of.Goals as goal
 

@@ -1,7 +1,7 @@
 use Rattle.std.proofs.Common.{ap, ◌∙◌}
 use Rattle.smil_model.specs.document.Valid.{kind_of}
 use Rattle.smil_tree.proofs.ParentNodes.{no_parent, parent_there}
-use Rattle.smil_revision.proofs.Copying.{parent_known}
+use Rattle.smil_revision.proofs.EditedCopies.{parent_known}
 use Rattle.smil_revision.proofs.copies.named.Goals as goal
 use Rattle.smil_revision.proofs.copies.named.Goals.{in-Some, in-None}
 

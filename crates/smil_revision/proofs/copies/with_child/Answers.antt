@@ -7,11 +7,11 @@ use Rattle.smil_grammar.specs.Formats.{formats}
 use Rattle.smil_grammar.specs.Nodes.{Shape, kind_of, kind_of_shape}
 use Rattle.smil_grammar.specs.Outlines.{in_line}
 use Rattle.smil_tree.specs.Outcomes.{IsFaultOf, insert_outcome}
-use Rattle.smil_tree.proofs.Results.{on_err}
+use Rattle.smil_tree.proofs.ResultClauses.{on_err}
 use Rattle.smil_tree.specs.Refusals.{of_tree}
 use Rattle.smil_revision.specs.Editing.{at_node}
 use Rattle.smil_revision.specs.Refusing.{of_outcome}
-use Rattle.smil_revision.proofs.Copying.{attrs_unread, inserted_read, kind_given, kind_unread, may_bear_read, misplaced, outcome_refuses}
+use Rattle.smil_revision.proofs.EditedCopies.{attrs_unread, inserted_read, kind_given, kind_unread, may_bear_read, misplaced, outcome_refuses}
 use Rattle.smil_revision.proofs.copies.with_child.Goals as goal
 use Rattle.smil_revision.proofs.copies.with_child.Goals.{After-insert}
 

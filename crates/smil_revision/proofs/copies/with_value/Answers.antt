@@ -4,11 +4,11 @@ use Rattle.smil_model.specs.document.Limits.{limits}
 use Rattle.smil_model.specs.shown.Orders.{attr_set_by}
 use Rattle.smil_grammar.specs.Formats.{formats}
 use Rattle.smil_tree.specs.Outcomes.{IsFaultOf, set_outcome}
-use Rattle.smil_tree.proofs.Results.{on_err}
+use Rattle.smil_tree.proofs.ResultClauses.{on_err}
 use Rattle.smil_tree.specs.Refusals.{of_tree}
 use Rattle.smil_revision.specs.Editing.{at_node}
 use Rattle.smil_revision.specs.Refusing.{of_outcome}
-use Rattle.smil_revision.proofs.Copying.{may_take_read, outcome_refuses, set_read, value_unread}
+use Rattle.smil_revision.proofs.EditedCopies.{may_take_read, outcome_refuses, set_read, value_unread}
 use Rattle.smil_revision.proofs.copies.with_value.Goals as goal
 use Rattle.smil_revision.proofs.copies.with_value.Goals.{After-set}
 

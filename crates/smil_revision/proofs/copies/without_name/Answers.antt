@@ -1,8 +1,8 @@
 use Rattle.std.proofs.Common.{ap, ◌∙◌}
 use Rattle.smil_model.specs.document.Document.{Document}
 use Rattle.smil_model.specs.document.Edits.{attr_unset}
-use Rattle.smil_tree.proofs.Results.{on_err}
-use Rattle.smil_revision.proofs.Copying.{name_unread, unset_read}
+use Rattle.smil_tree.proofs.ResultClauses.{on_err}
+use Rattle.smil_revision.proofs.EditedCopies.{name_unread, unset_read}
 use Rattle.smil_revision.proofs.copies.without_name.Goals as goal
 
 pub returns-clause-ok : goal.returns-clause-ok

@@ -1,10 +1,10 @@
 use Rattle.std.proofs.Common.{◌≡◌, Ok, Err, inr, ap, ◌∙◌, subst}
 use Rattle.smil_model.specs.document.Document.{Document}
 use Rattle.smil_tree.specs.Outcomes.{remove_outcome}
-use Rattle.smil_tree.proofs.Results.{on_err}
+use Rattle.smil_tree.proofs.ResultClauses.{on_err}
 use Rattle.smil_tree.specs.Refusals.{of_tree}
 use Rattle.smil_revision.specs.Refusing.{of_outcome}
-use Rattle.smil_revision.proofs.Copying.{removed_at}
+use Rattle.smil_revision.proofs.EditedCopies.{removed_at}
 use Rattle.smil_revision.proofs.copies.without_node.Goals as goal
 
 pub returns-clause-ok : goal.returns-clause-ok

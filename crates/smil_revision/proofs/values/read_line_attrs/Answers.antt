@@ -6,7 +6,7 @@ use Rattle.smil_grammar.specs.declared.fault.NodeFault.TheVariants as node_fault
 use Rattle.smil_grammar.specs.Formats.{attrs_in_line}
 use Rattle.smil_grammar.specs.Gives.{GivesNode, GivesReading}
 use Rattle.smil_grammar.specs.Nodes.{node_of}
-use Rattle.smil_revision.proofs.Reading.{attrs_read, attrs_refused, misplaced_node, node_in_text, node_refused}
+use Rattle.smil_revision.proofs.OrderReadings.{attrs_read, attrs_refused, misplaced_node, node_in_text, node_refused}
 use Rattle.smil_revision.proofs.values.read_line_attrs.Goals as goal
 use Rattle.smil_revision.proofs.values.read_line_attrs.Goals.{In-Err}
 

@@ -1,7 +1,7 @@
 use Rattle.std.proofs.Common.{Err, ap, sym, ◌-◌, ◌∙◌}
 use Rattle.smil_grammar.specs.Nodes.{kind_of_shape}
 use Rattle.smil_grammar.specs.Outlines.{in_line}
-use Rattle.smil_revision.proofs.Reading.{kind_in_text, kind_refused}
+use Rattle.smil_revision.proofs.OrderReadings.{kind_in_text, kind_refused}
 use Rattle.smil_revision.proofs.values.read_line_kind.Goals as goal
 
 pub refused_line-requires-clause-within : goal.refused_line-requires-clause-within

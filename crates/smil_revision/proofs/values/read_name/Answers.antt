@@ -2,7 +2,7 @@ use Rattle.std.proofs.Common.{[], Err, ap, ◌∙◌}
 use Rattle.smil_grammar.specs.Formats.{written_at}
 use Rattle.smil_grammar.specs.Nodes.{at_column}
 use Rattle.smil_grammar.specs.Outlines.{in_line}
-use Rattle.smil_revision.proofs.Reading.{name_placed, name_refused}
+use Rattle.smil_revision.proofs.OrderReadings.{name_placed, name_refused}
 use Rattle.smil_revision.proofs.values.read_name.Goals as goal
 
 pub refused_value-requires-clause-placed : goal.refused_value-requires-clause-placed

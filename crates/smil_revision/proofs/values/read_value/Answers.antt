@@ -6,7 +6,7 @@ use Rattle.smil_grammar.specs.Formats.{attr_in_line, written_at}
 use Rattle.smil_grammar.specs.Nodes.{at_column}
 use Rattle.smil_grammar.specs.Outlines.{in_line}
 use Rattle.smil_grammar.specs.Gives.{GivesReading}
-use Rattle.smil_revision.proofs.Reading.{value_placed, value_refused}
+use Rattle.smil_revision.proofs.OrderReadings.{value_placed, value_refused}
 use Rattle.smil_revision.proofs.values.read_value.Goals as goal
 
 pub refused_value-requires-clause-placed : goal.refused_value-requires-clause-placed

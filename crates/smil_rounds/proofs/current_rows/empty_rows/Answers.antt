@@ -1,7 +1,7 @@
 use Rattle.std.proofs.Common.{sym, ◌∙◌, ap, ◌++◌, ◌∷◌, [], get_or, map}
 use Rattle.std.proofs.lemmas.List.{take_all}
 use Rattle.std.proofs.lemmas.Option.{slice_get-get_or}
-use Rattle.smil_instances.proofs.Lists.{map_next}
+use Rattle.smil_instances.proofs.ListsMade.{map_next}
 use Rattle.smil_rounds.specs.Rows.{row_without}
 use Rattle.smil_rounds.proofs.current_rows.empty_rows.Goals as goal
 

@@ -2,10 +2,10 @@ use Rattle.std.proofs.Common.{◌∙◌, ap, sym, ◌<◌, ◌≤◌, length, ar
 use Rattle.std.proofs.lemmas.Option.{slice_get_within}
 use Rattle.smil_model.specs.document.Document.{elements}
 use Rattle.smil_model.specs.happening.Keys.{coming_by}
-use Rattle.smil_laws.proofs.Rounds.{find-serial}
-use Rattle.smil_instances.proofs.Targets.{element_of}
+use Rattle.smil_laws.proofs.RoundsRest.{find-serial}
+use Rattle.smil_instances.proofs.IdTargets.{element_of}
 use Rattle.smil_past.specs.Past.{history_of}
-use Rattle.smil_rounds.proofs.Taking.{elements_few, evaluated_near}
+use Rattle.smil_rounds.proofs.RowEvaluated.{elements_few, evaluated_near}
 use Rattle.smil_rounds.proofs.current_rows.row_by.Goals as goal
 
 pub evaluation_of-requires-clause-known : goal.evaluation_of-requires-clause-known

@@ -5,7 +5,7 @@ use Rattle.smil_model.specs.declared.diary.Entry.{Entry as AnyEntry}
 use Rattle.smil_model.specs.happening.Groups.{group, steps_of}
 use Rattle.smil_past.specs.Past.{history_of}
 use Rattle.smil_element.specs.Parts.{AppendsBy, meant}
-use Rattle.smil_rounds.proofs.Following.{known_in, parts}
+use Rattle.smil_rounds.proofs.GroupMayFollow.{known_in, parts}
 use Rattle.smil_rounds.proofs.groups.fill_group.Goals as goal
 
 pub group_of-requires-clause-known : goal.group_of-requires-clause-known

@@ -2,7 +2,7 @@ use Rattle.std.proofs.Common.{rules, tests, ◌≡◌, ◌∙◌, ap, length}
 use Rattle.std.specs.Prelude.{unwrap_or, position}
 use Rattle.std.proofs.lemmas.Iterator.{YieldsList-from_slice}
 use Rattle.std.proofs.lemmas.Iterator.Search.{position_from_yields_List}
-use Rattle.smil_sandwich.proofs.Places.{above, or_length}
+use Rattle.smil_sandwich.proofs.LayerPlaces.{above, or_length}
 use Rattle.smil_sandwich.proofs.sandwich.place_below.Goals as goal
 
 pub returns-clause-place : goal.returns-clause-place

@@ -1,7 +1,7 @@
 use Rattle.std.proofs.Common.{◌≡◌, ◌≤◌, ◌+◌, ◌*◌, ◌∙◌, sym, ap, get_or, drop, true, arith}
 use Rattle.smil_grammar.specs.Numbers.{number_after}
-use Rattle.smil_lexis.proofs.Digits.{digit_below}
-use Rattle.smil_script.proofs.Serials.{goes_on, one_more, below}
+use Rattle.smil_lexis.proofs.DigitSteps.{digit_below}
+use Rattle.smil_script.proofs.SerialNumbers.{goes_on, one_more, below}
 use Rattle.std.specs.Char.{is_ascii_digit}
 use Rattle.smil_script.proofs.entries.long.Goals as goal
 use Rattle.smil_script.proofs.entries.long.Goals.{After-from}

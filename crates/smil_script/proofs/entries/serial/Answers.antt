@@ -1,4 +1,4 @@
-use Rattle.smil_script.proofs.Serials.{serial_of_count}
+use Rattle.smil_script.proofs.SerialNumbers.{serial_of_count}
 use Rattle.smil_script.proofs.entries.serial.Goals as goal
 
 pub returns-clause-serial : goal.returns-clause-serial

@@ -1,6 +1,6 @@
 use Rattle.std.proofs.Common.{◌≡◌, true, is_some}
 use Rattle.smil_grammar.specs.Scripts.{event_of}
-use Rattle.smil_script.proofs.Names.{event_given, owned}
+use Rattle.smil_script.proofs.EventNames.{event_given, owned}
 use Rattle.smil_script.proofs.words.event_name.Goals as goal
 
 pub returns-clause-name : goal.returns-clause-name

@@ -6,7 +6,7 @@ use Rattle.smil_model.specs.Times.{IsMoment}
 use Rattle.smil_model.specs.diary.Clocks.{outer}
 use Rattle.smil_model.specs.diary.Diary.{last_moment}
 use Rattle.smil_laws.specs.Near.{IsTimeNear}
-use Rattle.smil_instances.proofs.Sums.{moment_fits}
+use Rattle.smil_instances.proofs.SumsFit.{moment_fits}
 use Rattle.smil_cells.specs.CellsState.{history_of}
 use Rattle.smil_shown.proofs.PresentMoments.{is_moment, settled_late}
 use Rattle.smil_shown.proofs.PresentPlays.{running_shown, standing_shown, sum_shown}

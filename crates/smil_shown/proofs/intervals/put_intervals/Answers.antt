@@ -2,8 +2,8 @@ use Rattle.std.proofs.Common.{sym, ◌∙◌, ap, subst, pos}
 use Rattle.std.proofs.lemmas.Result.{on_ok_weaker}
 use Rattle.smil_model.specs.diary.Lawful.{IsLawful}
 use Rattle.smil_model.specs.document.Document.{Document, elements}
-use Rattle.smil_tree.proofs.Changed.{serial_of as own_serial}
-use Rattle.smil_model.proofs.Growing.{begins_by}
+use Rattle.smil_tree.proofs.AttributesChanged.{serial_of as own_serial}
+use Rattle.smil_model.proofs.GrowingTexts.{begins_by}
 use Rattle.smil_cells.specs.CellsState.{history_of}
 use Rattle.smil_report.specs.Words.{who_of}
 use Rattle.smil_shown.specs.Histories.{end_at, present_line}

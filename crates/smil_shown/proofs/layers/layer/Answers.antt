@@ -6,7 +6,7 @@ use Rattle.smil_model.specs.document.Document.{is_set_kind}
 use Rattle.smil_model.specs.document.Edits.{place_in}
 use Rattle.smil_model.specs.document.Valid.{kind_of}
 use Rattle.smil_model.specs.shown.Sandwich.{layer_by, target_by}
-use Rattle.smil_shown.proofs.Apart.{layer_made}
+use Rattle.smil_shown.proofs.LayersApart.{layer_made}
 use Rattle.smil_shown.proofs.layers.layer.Goals as goal
 
 pub returns : goal.returns

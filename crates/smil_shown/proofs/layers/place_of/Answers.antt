@@ -2,7 +2,7 @@ use Rattle.std.proofs.Common.{◌≡◌, refl, sym, ◌∙◌, ap, subst, ℕ, l
 use Rattle.std.specs.Prelude.{◌==◌, unwrap_or}
 use Rattle.std.specs.List.{position_or_len}
 use Rattle.smil_model.specs.declared.document.Node.{Node as AnyNode}
-use Rattle.smil_shown.proofs.Apart.{found_below, found_place}
+use Rattle.smil_shown.proofs.LayersApart.{found_below, found_place}
 use Rattle.smil_shown.proofs.layers.place_of.Goals as goal
 
 pub unwrap-requires : goal.unwrap-requires

@@ -1,7 +1,7 @@
 use Rattle.std.proofs.Common.{refl, sym, ◌∙◌, ap, ◌++◌, append-nil}
 use Rattle.std.specs.Prelude.{is_some}
 use Rattle.smil_report.proofs.Growing.{begins_by, begins_same}
-use Rattle.smil_tree.proofs.Walks.{is_found, walk_begun, walk_on, walk_over}
+use Rattle.smil_tree.proofs.NodeWalks.{is_found, walk_begun, walk_on, walk_over}
 use Rattle.smil_shown.specs.Told.{told_gone}
 use Rattle.smil_shown.proofs.LinesTold.{gone_more}
 use Rattle.smil_shown.proofs.lines.put_all_gone.Goals as goal

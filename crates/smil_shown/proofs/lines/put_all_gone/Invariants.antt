@@ -1,6 +1,6 @@
 use Rattle.std.proofs.Common.{◌≡◌, ◌++◌}
 use Rattle.smil_report.specs.Tellings.{Begins}
-use Rattle.smil_tree.proofs.Walks.{Walked}
+use Rattle.smil_tree.proofs.NodeWalks.{Walked}
 use Rattle.smil_shown.specs.Told.{told_gone}
 use Rattle.smil_shown.proofs.lines.put_all_gone.Given as goal
 

@@ -2,7 +2,7 @@ use Rattle.std.proofs.Common.{rules, tests, ◌≡◌, ◌∙◌, ap, length}
 use Rattle.std.specs.Prelude.{unwrap_or, position}
 use Rattle.std.proofs.lemmas.Iterator.{YieldsList-from_slice}
 use Rattle.std.proofs.lemmas.Iterator.Search.{position_from_yields_List}
-use Rattle.smil_sandwich.proofs.Places.{or_length}
+use Rattle.smil_sandwich.proofs.LayerPlaces.{or_length}
 use Rattle.smil_shown.specs.Names.{is_up_to}
 use Rattle.smil_shown.proofs.names.place_among.Goals as goal
 

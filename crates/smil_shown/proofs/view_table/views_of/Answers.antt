@@ -3,7 +3,7 @@ use Rattle.std.proofs.lemmas.List.{length-map, take_all}
 use Rattle.smil_model.specs.declared.document.Node.{Node}
 use Rattle.smil_model.specs.declared.view.View.{View}
 use Rattle.smil_model.specs.document.Document.{elements}
-use Rattle.smil_instances.proofs.Lists.{map_next}
+use Rattle.smil_instances.proofs.ListsMade.{map_next}
 use Rattle.smil_shown.specs.ViewTable.{view_now}
 use Rattle.smil_shown.proofs.AllViews.{element_at}
 use Rattle.smil_shown.proofs.view_table.views_of.Goals as goal

@@ -3,7 +3,7 @@ use Rattle.std.specs.Prelude.{Option, is_some}
 use Rattle.smil_stretch.specs.declared.clock.Clock.TheVariants.{Runs}
 use Rattle.smil_stretch.specs.declared.clock.NodeClock.{NodeClock}
 use Rattle.smil_stretch.specs.NodeClocks.{idle_clock}
-use Rattle.smil_tree.proofs.Walks.{is_found, mapped_on, walk_begun, walk_on, walk_over}
+use Rattle.smil_tree.proofs.NodeWalks.{is_found, mapped_on, walk_begun, walk_on, walk_over}
 use Rattle.smil_stretch.proofs.clocks.idle_clocks.Goals as goal
 
 -- an idle clock by its serial and the place of its time parent

@@ -1,6 +1,6 @@
 use Rattle.std.proofs.Common.{◌≡◌, map}
 use Rattle.smil_stretch.specs.NodeClocks.{idle_clock}
-use Rattle.smil_tree.proofs.Walks.{Walked}
+use Rattle.smil_tree.proofs.NodeWalks.{Walked}
 use Rattle.smil_stretch.proofs.clocks.idle_clocks.Given as goal
 
 -- the clocks of the nodes so far

@@ -8,7 +8,7 @@ use Rattle.std.proofs.lemmas.List.Elements.{All-get_or}
 use Rattle.smil_stretch.specs.declared.clock.Clock.TheVariants.{Runs}
 use Rattle.smil_stretch.specs.declared.clock.NodeClock.{NodeClock}
 use Rattle.smil_stretch.specs.NodeClocks.{Fits, IsTurned}
-use Rattle.smil_stretch.proofs.Refreshed.{same_here, rest_on, done_on, done_early}
+use Rattle.smil_stretch.proofs.ClockLoop.{same_here, rest_on, done_on, done_early}
 use Rattle.smil_stretch.proofs.refresh.refresh.Goals as goal
 
 abbrev none : NodeClock

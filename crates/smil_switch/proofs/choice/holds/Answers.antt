@@ -4,7 +4,7 @@ use Rattle.smil_grammar.specs.Outlines.{in_line}
 use Rattle.smil_attrs.specs.Remainder.{attributes_in, written_in}
 use Rattle.smil_attrs.specs.Within.{AllWithin}
 use Rattle.smil_switch.specs.Choices.{attributes_hold}
-use Rattle.smil_switch.proofs.Held.{and_then, taken, held_on, held_off}
+use Rattle.smil_switch.proofs.AttributeSteps.{and_then, taken, held_on, held_off}
 use Rattle.smil_switch.proofs.choice.holds.Goals as goal
 
 pub returns-in-Err : goal.returns-in-Err

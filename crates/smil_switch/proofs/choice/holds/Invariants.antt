@@ -3,7 +3,7 @@ use Rattle.smil_grammar.specs.Outlines.{in_line}
 use Rattle.smil_attrs.specs.Remainder.{attributes_in, written_in}
 use Rattle.smil_attrs.specs.Within.{AllWithin}
 use Rattle.smil_switch.specs.Choices.{attributes_hold}
-use Rattle.smil_switch.proofs.Held.{and_then}
+use Rattle.smil_switch.proofs.AttributeSteps.{and_then}
 use Rattle.smil_switch.proofs.choice.holds.Given as goal
 
 abbrev pub invariant-loop-written : goal.invariant-loop-written

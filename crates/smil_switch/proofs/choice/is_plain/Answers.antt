@@ -2,7 +2,7 @@ use Rattle.std.proofs.Common.{◌≡◌, ℕ, List, false, take, ap, sym, ◌∙
 use Rattle.std.specs.Prelude.{bytes_eq, codes}
 use Rattle.std.specs.List.{list_any}
 use Rattle.smil_switch.specs.Choices.{is_y}
-use Rattle.smil_switch.proofs.Plain.{is_not, line_plain}
+use Rattle.smil_switch.proofs.PlainLines.{is_not, line_plain}
 use Rattle.smil_switch.proofs.choice.is_plain.Goals as goal
 
 pub returns-then-not-is-clause-plain : goal.returns-then-not-is-clause-plain

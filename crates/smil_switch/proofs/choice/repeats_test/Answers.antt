@@ -5,7 +5,7 @@ use Rattle.smil_grammar.specs.Nodes.{WrittenAttr}
 use Rattle.smil_attrs.specs.Remainder.{attributes_in, written_in}
 use Rattle.smil_switch.specs.Preferences.{is_test}
 use Rattle.smil_switch.specs.Choices.{tests_repeat}
-use Rattle.smil_switch.proofs.Held.{taken, stands_once}
+use Rattle.smil_switch.proofs.AttributeSteps.{taken, stands_once}
 use Rattle.smil_switch.proofs.choice.repeats_test.Goals as goal
 
 pub loop-written-preserved : goal.loop-written-preserved

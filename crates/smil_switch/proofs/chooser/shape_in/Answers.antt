@@ -2,7 +2,7 @@ use Rattle.std.proofs.Common.{◌-◌, Option, sym, subst, arith}
 use Rattle.std.specs.Prelude.{IfSome}
 use Rattle.smil_grammar.specs.Nodes.{Shape}
 use Rattle.smil_attrs.specs.Within.{AllWithin}
-use Rattle.smil_attrs.proofs.Near.{shape_near}
+use Rattle.smil_attrs.proofs.AttributeColumns.{shape_near}
 use Rattle.smil_switch.proofs.chooser.shape_in.Goals as goal
 
 pub returns-clause-within : goal.returns-clause-within

@@ -1,4 +1,4 @@
-use Rattle.smil_switch.proofs.Pushes.{of_the_tree}
+use Rattle.smil_switch.proofs.PushGrowsTree.{of_the_tree}
 use Rattle.smil_switch.proofs.laws.choice_is_of_the_tree.Goals as goal
 
 pub returns : goal.returns

@@ -1,5 +1,5 @@
-use Rattle.smil_time_list.proofs.Printable.{item_printable, can_write}
-use Rattle.smil_time_list.proofs.Spelled.{item_read}
+use Rattle.smil_time_list.proofs.PrintableItems.{item_printable, can_write}
+use Rattle.smil_time_list.proofs.ItemRoundTrip.{item_read}
 use Rattle.smil_time_list.proofs.again.item_again.Goals as goal
 
 pub returns : goal.returns

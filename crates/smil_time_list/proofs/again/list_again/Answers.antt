@@ -1,4 +1,4 @@
-use Rattle.smil_time_list.proofs.Listed.{list_is, list_read, read_can_write}
+use Rattle.smil_time_list.proofs.ListRoundTrip.{list_is, list_read, read_can_write}
 use Rattle.smil_time_list.proofs.again.list_again.Goals as goal
 
 pub returns : goal.returns

@@ -1,5 +1,5 @@
 use Rattle.std.proofs.Common.{◌≡◌, ℕ, List, Some, option_map, Bor, refl}
-use Rattle.smil_time_list.proofs.Subjects.{named}
+use Rattle.smil_time_list.proofs.ReferenceSubjects.{named}
 use Rattle.smil_time_list.proofs.items.subject.Goals as goal
 
 pub returns-in_ok-unescaped-in-Some : goal.returns-in_ok-unescaped-in-Some

@@ -1,5 +1,5 @@
 use Rattle.std.proofs.Common.{true, false}
-use Rattle.smil_time_list.proofs.Listed.{given_can_write}
+use Rattle.smil_time_list.proofs.ListRoundTrip.{given_can_write}
 use Rattle.smil_time_list.proofs.lists.read_list.Goals as goal
 
 pub returns-then-matches-clause-can_write : goal.returns-then-matches-clause-can_write

@@ -1,7 +1,7 @@
 use Rattle.std.proofs.Common.{◌∷◌, []}
 use Rattle.std.specs.Prelude.{codes}
 use Rattle.std.proofs.lemmas.Result.{on_ok_weaker}
-use Rattle.smil_time_list.proofs.Spelled.{in_a_row}
+use Rattle.smil_time_list.proofs.ItemRoundTrip.{in_a_row}
 use Rattle.smil_time_list.proofs.spellings.put_call.Goals as goal
 
 pub returns-clause-ok : goal.returns-clause-ok

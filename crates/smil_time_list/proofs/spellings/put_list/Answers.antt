@@ -1,7 +1,7 @@
 use Rattle.std.proofs.Common.{◌∙◌, ◌++◌, ap}
 use Rattle.smil_model.specs.declared.document.Item.{Item}
 use Rattle.smil_time_list.specs.Joined.{next_text}
-use Rattle.smil_time_list.proofs.Joins.{one_more}
+use Rattle.smil_time_list.proofs.ItemJoins.{one_more}
 use Rattle.smil_time_list.proofs.spellings.put_list.Goals as goal
 
 pub loop-index-preserved : goal.loop-index-preserved

@@ -5,7 +5,7 @@ use Rattle.std.specs.Prelude.{pos, codes, nat_abs, unwrap_or}
 use Rattle.smil_top.specs.declared.counts.Counts.{Counts}
 use Rattle.smil_top.specs.Summary.{count_lines, line_count, moment_in, told_of}
 use Rattle.smil_top.specs.Running.{AreExact}
-use Rattle.smil_top.proofs.Summed.{exact, moment-held}
+use Rattle.smil_top.proofs.SessionOfNumber.{exact, moment-held}
 use Rattle.smil_top.proofs.generated.summary_text.Goals as goal
 
 pub returns : goal.returns

@@ -1,4 +1,4 @@
-use Rattle.smil_top.proofs.Apart.{own_order}
+use Rattle.smil_top.proofs.OrdersByName.{own_order}
 use Rattle.smil_top.proofs.laws.answers_are_own.Goals as goal
 
 pub returns : goal.returns

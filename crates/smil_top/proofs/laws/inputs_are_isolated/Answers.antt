@@ -1,4 +1,4 @@
-use Rattle.smil_top.proofs.Inputs.{alone_in_input}
+use Rattle.smil_top.proofs.InputsOfOneName.{alone_in_input}
 use Rattle.smil_top.proofs.laws.inputs_are_isolated.Goals as goal
 
 pub returns : goal.returns

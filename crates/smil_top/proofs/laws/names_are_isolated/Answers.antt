@@ -1,4 +1,4 @@
-use Rattle.smil_top.proofs.Alone.{is_alone}
+use Rattle.smil_top.proofs.OrdersOfOneName.{is_alone}
 use Rattle.smil_top.proofs.laws.names_are_isolated.Goals as goal
 
 pub returns : goal.returns

@@ -1,4 +1,4 @@
-use Rattle.smil_top.proofs.Aside.{are_aside}
+use Rattle.smil_top.proofs.LineNumbers.{are_aside}
 use Rattle.smil_top.proofs.laws.numbers_are_aside.Goals as goal
 
 pub returns : goal.returns

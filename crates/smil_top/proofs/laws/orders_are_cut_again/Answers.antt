@@ -1,4 +1,4 @@
-use Rattle.smil_top.proofs.Again.{cut_again}
+use Rattle.smil_top.proofs.OrdersCutAgain.{cut_again}
 use Rattle.smil_top.proofs.laws.orders_are_cut_again.Goals as goal
 
 pub returns : goal.returns

@@ -1,6 +1,6 @@
 use Rattle.smil_top.specs.Answers.{answer_within, check_within}
-use Rattle.smil_top.proofs.Transcripts.{is_one, is_some, is_enough}
-use Rattle.smil_top.proofs.Enough.{never_lacks, checked_never_lacks}
+use Rattle.smil_top.proofs.TranscriptAnswers.{is_one, is_some, is_enough}
+use Rattle.smil_top.proofs.OrdersNeedNoMemory.{never_lacks, checked_never_lacks}
 use Rattle.smil_top.proofs.laws.orders_have_one_transcript.Goals as goal
 
 pub returns-clause-never : goal.returns-clause-never

@@ -1,5 +1,5 @@
-use Rattle.smil_top.proofs.Isolated.{of_one}
-use Rattle.smil_top.proofs.Apart.{order_stays, presentation_stays}
+use Rattle.smil_top.proofs.NamesIsolated.{of_one}
+use Rattle.smil_top.proofs.OrdersByName.{order_stays, presentation_stays}
 use Rattle.smil_top.proofs.laws.others_stay.Goals as goal
 
 pub returns-clause-one : goal.returns-clause-one

@@ -1,5 +1,5 @@
-use Rattle.smil_top.proofs.Apart.{prefers_on}
-use Rattle.smil_top.proofs.Preferring.{holds_on, of_none}
+use Rattle.smil_top.proofs.OrdersByName.{prefers_on}
+use Rattle.smil_top.proofs.PreferOrders.{holds_on, of_none}
 use Rattle.smil_top.proofs.laws.preferences_are_apart.Goals as goal
 
 pub returns-clause-none : goal.returns-clause-none

@@ -1,4 +1,4 @@
-use Rattle.smil_top.proofs.Transcripts.{is_told, each_is_told, with_ease_told, text_of_answers}
+use Rattle.smil_top.proofs.TranscriptAnswers.{is_told, each_is_told, with_ease_told, text_of_answers}
 use Rattle.smil_top.proofs.laws.transcripts_are_told.Goals as goal
 
 pub returns-clause-told : goal.returns-clause-told

@@ -1,4 +1,4 @@
-use Rattle.smil_top.proofs.Migrated.{told_same, told_checked_same}
+use Rattle.smil_top.proofs.LargerLimits.{told_same, told_checked_same}
 use Rattle.smil_top.proofs.laws.transcripts_migrate.Goals as goal
 
 pub returns : goal.returns

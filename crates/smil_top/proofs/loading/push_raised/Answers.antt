@@ -1,7 +1,7 @@
 use Rattle.std.proofs.Common.{◌≤◌, ◌*◌, length, length-drop, ap, arith}
 use Rattle.smil_model.specs.declared.limits.TheConstants.{LINE_BYTES}
 use Rattle.smil_model.specs.document.Limits.{limits}
-use Rattle.smil_outline.proofs.Near.{near-refusal, line_near}
+use Rattle.smil_outline.proofs.RefusalColumns.{near-refusal, line_near}
 use Rattle.smil_top.proofs.loading.push_raised.Goals as goal
 
 pub lowered-requires-clause-near : goal.lowered-requires-clause-near

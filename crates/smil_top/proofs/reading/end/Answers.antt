@@ -3,7 +3,7 @@ use Rattle.std.specs.Prelude.{nat_lt}
 use Rattle.smil_top.specs.declared.status.Status.{Status}
 use Rattle.smil_top.specs.Cut.{OrderLines, unended}
 use Rattle.smil_top.specs.Evaluations.{AreEvaluated}
-use Rattle.smil_top.proofs.Evaluated.{evaluated-all}
+use Rattle.smil_top.proofs.EvaluationCounts.{evaluated-all}
 use Rattle.smil_top.proofs.SessionCounts.{no_read_fault, ended-status}
 use Rattle.smil_top.proofs.reading.end.Goals as goal
 

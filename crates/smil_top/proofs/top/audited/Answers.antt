@@ -1,8 +1,8 @@
 use Rattle.std.proofs.Common.{subst}
 use Rattle.smil_top.specs.Serving.{IsPart}
-use Rattle.smil_top.proofs.Auditing.{Serves-part}
-use Rattle.smil_top.proofs.Serving.{part-alone}
-use Rattle.smil_top.proofs.Writing.{Writes-of}
+use Rattle.smil_top.proofs.AuditLines.{Serves-part}
+use Rattle.smil_top.proofs.ServeStep.{part-alone}
+use Rattle.smil_top.proofs.TextsWritten.{Writes-of}
 use Rattle.smil_top.proofs.top.audited.Goals as goal
 
 pub returns-in-Err-write_all-clause-serves : goal.returns-in-Err-write_all-clause-serves

@@ -1,5 +1,5 @@
-use Rattle.smil_top.proofs.Writing.{Writes-of}
-use Rattle.smil_top.proofs.Serving.{part-alone}
+use Rattle.smil_top.proofs.TextsWritten.{Writes-of}
+use Rattle.smil_top.proofs.ServeStep.{part-alone}
 use Rattle.smil_top.proofs.top.explain.Goals as goal
 
 pub returns-in-Err-clause-explains : goal.returns-in-Err-clause-explains

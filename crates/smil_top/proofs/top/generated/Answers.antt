@@ -1,7 +1,7 @@
 use Rattle.std.proofs.Common.{subst, ◌∙◌}
 use Rattle.smil_top.specs.Serving.{IsPart}
-use Rattle.smil_top.proofs.Writing.{Writes-of}
-use Rattle.smil_top.proofs.Serving.{part-alone}
+use Rattle.smil_top.proofs.TextsWritten.{Writes-of}
+use Rattle.smil_top.proofs.ServeStep.{part-alone}
 use Rattle.smil_top.proofs.top.generated.Goals as goal
 
 pub returns-clause-generates : goal.returns-clause-generates

@@ -4,7 +4,7 @@ use Rattle.smil_words.specs.declared.mode.Mode.TheVariants as mode
 use Rattle.smil_words.specs.Words.{mode_of}
 use Rattle.smil_top.specs.Evaluations.{Evaluates}
 use Rattle.smil_top.specs.Serving.{Serves, reads}
-use Rattle.smil_top.proofs.Serving.{Evaluates-audited, Evaluates-unread, Serves-explained, Serves-generated}
+use Rattle.smil_top.proofs.ServeStep.{Evaluates-audited, Evaluates-unread, Serves-explained, Serves-generated}
 use Rattle.smil_top.proofs.top.serve.Goals as goal
 
 pub returns-in-Ok-Gen-clause-serves : goal.returns-in-Ok-Gen-clause-serves

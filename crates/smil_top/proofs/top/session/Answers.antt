@@ -1,5 +1,5 @@
 use Rattle.std.proofs.Common.{◌-◌}
-use Rattle.smil_top.proofs.Serving.{Evaluates-ran, Evaluates-nothing}
+use Rattle.smil_top.proofs.ServeStep.{Evaluates-ran, Evaluates-nothing}
 use Rattle.smil_top.proofs.top.session.Goals as goal
 
 pub returns-in-Ok-clause-evaluated : goal.returns-in-Ok-clause-evaluated

@@ -1,6 +1,6 @@
 use Rattle.std.proofs.Common.{◌+◌, ◌≤◌, ap, subst, ◌∙◌, take, drop, arith}
 use Rattle.smil_model.specs.reach.Reach.{is_option}
-use Rattle.smil_laws.proofs.Lineages.{same_eqb}
+use Rattle.smil_laws.proofs.LineageParents.{same_eqb}
 use Rattle.smil_tree.specs.Kin.{AreListsOf}
 use Rattle.smil_tree.proofs.KinTables.{joined, joined_none}
 use Rattle.smil_tree.proofs.KinTrees.{around_place}

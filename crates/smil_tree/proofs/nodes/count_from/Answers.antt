@@ -1,5 +1,5 @@
 use Rattle.std.proofs.Common.{arith}
-use Rattle.smil_tree.proofs.Results.{of_ok}
+use Rattle.smil_tree.proofs.ResultClauses.{of_ok}
 use Rattle.smil_tree.proofs.Counted.{counted_all, counted_has, counted_next}
 use Rattle.smil_tree.proofs.nodes.count_from.Goals as goal
 

@@ -1,5 +1,5 @@
 use Rattle.std.proofs.Common.{◌++◌, ap, ◌∙◌}
-use Rattle.smil_tree.proofs.Making.{copied_more, copied_all}
+use Rattle.smil_tree.proofs.TreeMade.{copied_more, copied_all}
 use Rattle.smil_tree.proofs.tree.doc_of.Goals as goal
 
 pub loop-node-init : goal.loop-node-init

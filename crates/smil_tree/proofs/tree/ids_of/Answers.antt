@@ -1,6 +1,6 @@
 use Rattle.std.proofs.Common.{sym, ap, ◌∙◌, Some, cond}
 use Rattle.smil_tree.specs.TreeFields.{bears}
-use Rattle.smil_tree.proofs.Making.{item_at, owner-more_at, once_of}
+use Rattle.smil_tree.proofs.TreeMade.{item_at, owner-more_at, once_of}
 use Rattle.smil_tree.proofs.tree.ids_of.Goals as goal
 
 pub loop-node-preserved : goal.loop-node-preserved

@@ -1,7 +1,7 @@
 use Rattle.std.proofs.Common.{List, sym, subst}
 use Rattle.smil_model.specs.declared.document.Node.{Node}
 use Rattle.smil_model.specs.document.Valid.{IsValid}
-use Rattle.smil_tree.proofs.Keeping.{keeps_made}
+use Rattle.smil_tree.proofs.AttributeEdits.{keeps_made}
 use Rattle.smil_tree.proofs.tree.made.Goals as goal
 
 pub refresh-requires-clause-valid : goal.refresh-requires-clause-valid

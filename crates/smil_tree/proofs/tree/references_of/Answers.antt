@@ -1,5 +1,5 @@
 use Rattle.std.proofs.Common.{arith}
-use Rattle.smil_tree.proofs.Making.{item_at, references-more_at, references-of_one}
+use Rattle.smil_tree.proofs.TreeMade.{item_at, references-more_at, references-of_one}
 use Rattle.smil_tree.proofs.tree.references_of.Goals as goal
 
 pub loop-node-preserved : goal.loop-node-preserved

@@ -4,13 +4,13 @@ use Rattle.std.proofs.lemmas.List.{length-take-le}
 use Rattle.smil_model.specs.document.Document.{node_at, is_element, serial_of}
 use Rattle.smil_model.specs.document.Edits.{children}
 use Rattle.smil_laws.specs.Edited.{IsOrdered}
-use Rattle.smil_laws.proofs.Numbered.{ordered}
+use Rattle.smil_laws.proofs.NumberedTrees.{ordered}
 use Rattle.smil_tree.specs.Kin.{IsKinOf}
-use Rattle.smil_tree.proofs.Cuts.{get_inserted}
-use Rattle.smil_tree.proofs.Families.{above_of, node_of_place}
+use Rattle.smil_tree.proofs.ListCuts.{get_inserted}
+use Rattle.smil_tree.proofs.NodeFamilies.{above_of, node_of_place}
 use Rattle.smil_tree.proofs.KinCallers.{ordered_take, leaf_at}
-use Rattle.smil_tree.proofs.Making.{item_at, fresh_at, taken_more}
-use Rattle.smil_tree.proofs.Putting.{back}
+use Rattle.smil_tree.proofs.TreeMade.{item_at, fresh_at, taken_more}
+use Rattle.smil_tree.proofs.NodePut.{back}
 use Rattle.smil_tree.proofs.tree.take_in.Goals as goal
 
 pub insert-requires-clause-fresh : goal.insert-requires-clause-fresh

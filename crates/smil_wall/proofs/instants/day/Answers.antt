@@ -4,7 +4,7 @@ use mir.Syntax.{w64}
 use mir.Val.{to_z, of_z}
 use Rattle.jiff_core.specs.Calendar.{days_in_month, days_from_civil}
 use Rattle.smil_grammar.specs.Instants.{day_of}
-use Rattle.smil_wall.proofs.Days.{day_is}
+use Rattle.smil_wall.proofs.CalendarDays.{day_is}
 use Rattle.smil_wall.proofs.instants.day.Goals as goal
 
 pub returns-in-Ok-clause-number : goal.returns-in-Ok-clause-number

@@ -1,4 +1,4 @@
-use Rattle.smil_lexis.proofs.Pieces.{cut_says}
+use Rattle.smil_lexis.proofs.CutPieces.{cut_says}
 use Rattle.smil_wall.proofs.rewriting.cut_parts.Goals as goal
 
 pub returns : goal.returns

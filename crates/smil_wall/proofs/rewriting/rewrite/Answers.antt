@@ -1,4 +1,4 @@
-use Rattle.smil_wall.proofs.Near.{line_within}
+use Rattle.smil_wall.proofs.RewriteColumns.{line_within}
 use Rattle.smil_wall.proofs.rewriting.rewrite.Goals as goal
 
 pub returns-in-Some-clause-within : goal.returns-in-Some-clause-within

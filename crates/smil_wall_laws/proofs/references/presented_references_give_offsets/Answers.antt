@@ -4,7 +4,7 @@ use Rattle.smil_model.specs.declared.limits.TheConstants.{DIARY_ENTRIES}
 use Rattle.smil_model.specs.document.Limits.{limits}
 use Rattle.smil_model.specs.interval.Current.{current_interval}
 use Rattle.smil_model.specs.shown.Orders.{resolved_history}
-use Rattle.smil_wall_laws.proofs.Given.{gives}
+use Rattle.smil_wall_laws.proofs.RootReferenceTime.{gives}
 use Rattle.smil_wall_laws.proofs.references.presented_references_give_offsets.Goals as goal
 
 pub returns : goal.returns

@@ -1,4 +1,4 @@
-use Rattle.smil_wall_laws.proofs.Given.{gives}
+use Rattle.smil_wall_laws.proofs.RootReferenceTime.{gives}
 use Rattle.smil_wall_laws.proofs.references.references_give_offsets.Goals as goal
 
 pub returns : goal.returns

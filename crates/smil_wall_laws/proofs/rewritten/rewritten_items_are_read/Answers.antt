@@ -1,4 +1,4 @@
-use Rattle.smil_wall_laws.proofs.ReadAgain.{items_read}
+use Rattle.smil_wall_laws.proofs.RewrittenRoundTrip.{items_read}
 use Rattle.smil_wall_laws.proofs.rewritten.rewritten_items_are_read.Goals as goal
 
 pub returns : goal.returns

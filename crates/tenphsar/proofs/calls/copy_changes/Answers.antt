@@ -2,7 +2,7 @@ use Rattle.std.proofs.Common.{min, subst}
 use Rattle.std.specs.Prelude.{drop, map}
 use Rattle.tenphsar.specs.Calls.{Copies}
 use Rattle.tenphsar.specs.Records.{record_of}
-use Rattle.tenphsar.proofs.Copies.{copies-behind}
+use Rattle.tenphsar.proofs.PiecesCopied.{copies-behind}
 use Rattle.tenphsar.proofs.calls.copy_changes.Goals as goal
 
 pub returns : goal.returns

@@ -1,5 +1,5 @@
 use Rattle.std.proofs.Common.{ap, ◌∙◌, length, min}
-use Rattle.tenphsar.proofs.Copies.{copies-pieces}
+use Rattle.tenphsar.proofs.PiecesCopied.{copies-pieces}
 use Rattle.tenphsar.proofs.calls.copy_pieces.Goals as goal
 
 pub returns : goal.returns

@@ -1,6 +1,6 @@
 use Rattle.std.proofs.Common.{arith}
 use Rattle.tenphsar.specs.Records.{record_of}
-use Rattle.tenphsar.proofs.Copies.{copied-more}
+use Rattle.tenphsar.proofs.PiecesCopied.{copied-more}
 use Rattle.tenphsar.proofs.records.copy.Goals as goal
 
 pub loop-i-preserved : goal.loop-i-preserved

@@ -3,7 +3,7 @@ use Rattle.std.specs.Prelude.{bytes_eq}
 use Rattle.std.specs.List.{list_any}
 use Rattle.std.proofs.lemmas.Iterator.{YieldsList-from_slice}
 use Rattle.std.proofs.lemmas.Iterator.Search.{any_from_yields_List}
-use Rattle.smil_attrs.proofs.Repeating.{any_of}
+use Rattle.smil_attrs.proofs.RepeatedNames.{any_of}
 use Rattle.smil_attrs.proofs.seen.SeenNames.has.Goals as goal
 
 pub returns : goal.returns

@@ -2,7 +2,7 @@ use Rattle.std.proofs.Common.{◌≡◌, ◌<◌, ◌+◌, Option, Some, refl, s
 use Rattle.smil_grammar.specs.Positions.{Piece}
 use Rattle.smil_grammar.specs.Nodes.{WrittenAttr, with_written}
 use Rattle.smil_attrs.specs.Remainder.{Passes, attributes_in}
-use Rattle.smil_attrs.proofs.Passing.{ended, no_more, half, malformed, passed, shorter}
+use Rattle.smil_attrs.proofs.AttributeSteps.{ended, no_more, half, malformed, passed, shorter}
 use Rattle.smil_attrs.proofs.shape.Attributes.next.Goals as goal
 
 pub returns-in_err-lead : goal.returns-in_err-lead

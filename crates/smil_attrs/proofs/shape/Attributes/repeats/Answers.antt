@@ -3,7 +3,7 @@ use Rattle.smil_grammar.specs.Positions.{Piece}
 use Rattle.smil_grammar.specs.Nodes.{WrittenAttr, repeats}
 use Rattle.smil_attrs.specs.Remainder.{attributes_in, written_in}
 use Rattle.smil_attrs.specs.Repeats.{twice_from}
-use Rattle.smil_attrs.proofs.Repeating.{from_none, on_from}
+use Rattle.smil_attrs.proofs.RepeatedNames.{from_none, on_from}
 use Rattle.smil_attrs.proofs.shape.Attributes.repeats.Goals as goal
 
 pub loop-attribute-init : goal.loop-attribute-init

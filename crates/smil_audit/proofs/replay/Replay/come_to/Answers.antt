@@ -5,7 +5,7 @@ use Rattle.smil_element.specs.Parts.{coming_meant}
 use Rattle.smil_audit.specs.declared.replay.Replay.{Replay}
 use Rattle.smil_audit.specs.Replayed.{IsPassed, IsQuietUntil}
 use Rattle.smil_audit.specs.Steps.{replayed}
-use Rattle.smil_audit.proofs.Replays.{between, le_own, less_le, own_whole, quiet_to, test_less, test_not, within_is}
+use Rattle.smil_audit.proofs.ReplayCourses.{between, le_own, less_le, own_whole, quiet_to, test_less, test_not, within_is}
 use Rattle.smil_audit.proofs.replay.Replay.come_to.Goals as goal
 
 pub pass_to-requires-clause-from : goal.pass_to-requires-clause-from

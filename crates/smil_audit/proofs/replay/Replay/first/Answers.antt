@@ -2,12 +2,12 @@ use Rattle.std.proofs.Common.{◌∙◌, ap, subst, ℤ, w64}
 use Rattle.std.specs.Prelude.{nat_abs, pos}
 use Rattle.std.proofs.lemmas.Int.{to_z-of_z}
 use Rattle.smil_past.specs.Past.{history_of}
-use Rattle.smil_element.proofs.Latest.{present_fits}
+use Rattle.smil_element.proofs.PresentMoment.{present_fits}
 use Rattle.smil_rounds.specs.Current.{IsCurrent}
 use Rattle.smil_rounds.specs.Round.{due_in, keys_in}
-use Rattle.smil_rounds.proofs.Current.{current_elements}
-use Rattle.smil_audit.proofs.Keys.{first_chosen, first_none}
-use Rattle.smil_audit.proofs.Replays.{whole}
+use Rattle.smil_rounds.proofs.CurrentRowsExact.{current_elements}
+use Rattle.smil_audit.proofs.LeastKeys.{first_chosen, first_none}
+use Rattle.smil_audit.proofs.ReplayCourses.{whole}
 use Rattle.smil_audit.proofs.replay.Replay.first.Goals as goal
 
 pub returns-in-Some-clause-sound : goal.returns-in-Some-clause-sound

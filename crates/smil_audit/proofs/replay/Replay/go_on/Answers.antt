@@ -5,7 +5,7 @@ use Rattle.smil_model.specs.happening.Keys.{DueChange}
 use Rattle.smil_element.specs.Parts.{coming_meant}
 use Rattle.smil_audit.specs.Replayed.{IsLate, IsUntil, first_at}
 use Rattle.smil_audit.specs.Steps.{replayed}
-use Rattle.smil_audit.proofs.Replays.{follows_from, meant_first, until_whole}
+use Rattle.smil_audit.proofs.ReplayCourses.{follows_from, meant_first, until_whole}
 use Rattle.smil_audit.specs.Replayed.{Follows, Replayed}
 use Rattle.smil_audit.proofs.replay.Replay.go_on.Goals as goal
 use Rattle.smil_audit.proofs.replay.Replay.go_on.Goals.{in_default-via-in-Some+else-coming-until, in_default-via-in_default}

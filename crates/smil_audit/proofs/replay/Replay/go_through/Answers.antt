@@ -2,9 +2,9 @@ use Rattle.std.proofs.Common.{sym, subst, List, ◌++◌, ℕ}
 use Rattle.std.specs.Prelude.{Option}
 use Rattle.smil_model.specs.declared.diary.Entry.{Entry}
 use Rattle.smil_past.specs.Past.{IsPresent, MarkedHistory, with_diary}
-use Rattle.smil_rounds.proofs.Moments.{present_with}
+use Rattle.smil_rounds.proofs.MomentEntries.{present_with}
 use Rattle.smil_audit.specs.Steps.{IsReplay, TakenIn, replayed}
-use Rattle.smil_audit.proofs.Going.{differs, reached_step}
+use Rattle.smil_audit.proofs.ReplaySteps.{differs, reached_step}
 use Rattle.smil_audit.proofs.replay.Replay.go_through.Goals as goal
 
 pub returns-in-Some-clause-went : goal.returns-in-Some-clause-went

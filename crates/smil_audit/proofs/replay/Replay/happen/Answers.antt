@@ -5,9 +5,9 @@ use Rattle.std.proofs.Common.{w64}
 use Rattle.smil_model.specs.happening.Groups.{group}
 use Rattle.smil_past.specs.Past.{IsPresent, history_of}
 use Rattle.smil_element.specs.Parts.{coming_meant, meant}
-use Rattle.smil_element.proofs.Latest.{present_fits}
-use Rattle.smil_rounds.proofs.Following.{of_element}
-use Rattle.smil_audit.proofs.Replays.{group_may, regrouped, with_group}
+use Rattle.smil_element.proofs.PresentMoment.{present_fits}
+use Rattle.smil_rounds.proofs.GroupMayFollow.{of_element}
+use Rattle.smil_audit.proofs.ReplayCourses.{group_may, regrouped, with_group}
 use Rattle.smil_audit.proofs.replay.Replay.happen.Goals as goal
 
 pub fill_group-requires-clause-element : goal.fill_group-requires-clause-element

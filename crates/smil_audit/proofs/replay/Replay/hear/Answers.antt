@@ -5,7 +5,7 @@ use Rattle.smil_model.specs.declared.diary.Entry.{Entry as AnyEntry}
 use Rattle.smil_model.specs.declared.diary.LogEntry.{LogEntry as AnyLogEntry}
 use Rattle.smil_model.specs.declared.diary.Step.TheVariants as step
 use Rattle.smil_model.specs.happening.Groups.{at_moment}
-use Rattle.smil_audit.proofs.Replays.{heard_few, heard_may, own_whole, regrouped, with_group}
+use Rattle.smil_audit.proofs.ReplayCourses.{heard_few, heard_may, own_whole, regrouped, with_group}
 use Rattle.smil_audit.proofs.replay.Replay.hear.Goals as goal
 
 pub overflow_cast-self : goal.overflow_cast-self

@@ -3,8 +3,8 @@ use Rattle.std.proofs.lemmas.Int.{ints, to_z-of_z}
 use Rattle.smil_model.specs.declared.times.TheConstants.{HORIZON}
 use Rattle.smil_model.specs.document.Document.{elements}
 use Rattle.smil_past.specs.Past.{MarkedHistory}
-use Rattle.smil_rounds.proofs.Empty.{empty_serials}
-use Rattle.smil_rounds.proofs.Paired.{serials_in}
+use Rattle.smil_rounds.proofs.RowsEmpty.{empty_serials}
+use Rattle.smil_rounds.proofs.RowsBesideElements.{serials_in}
 use Rattle.smil_audit.specs.Steps.{IsReplay}
 use Rattle.smil_audit.proofs.replay.Replay.new.Goals as goal
 

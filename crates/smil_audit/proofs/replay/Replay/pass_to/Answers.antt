@@ -2,7 +2,7 @@ use Rattle.std.proofs.Common.{◌≡◌, subst, sym, ℤ, w64}
 use Rattle.std.proofs.lemmas.Int.{to_z-of_z}
 use Rattle.smil_audit.specs.Steps.{IsReplay, replayed}
 use Rattle.smil_audit.specs.Replayed.{first_at}
-use Rattle.smil_audit.proofs.Replays.{first_stays, moved, passed}
+use Rattle.smil_audit.proofs.ReplayCourses.{first_stays, moved, passed}
 use Rattle.smil_audit.proofs.replay.Replay.pass_to.Goals as goal
 
 pub returns-clause-sound : goal.returns-clause-sound

@@ -5,7 +5,7 @@ use Rattle.std.proofs.lemmas.Int.{to_z-of_z}
 use Rattle.smil_model.specs.declared.diary.LogEntry.{LogEntry as AnyLogEntry}
 use Rattle.smil_audit.specs.Replayed.{IsUntil}
 use Rattle.smil_audit.specs.Steps.{replayed}
-use Rattle.smil_audit.proofs.Replays.{last_fits, own_whole, test_less, until_some, until_whole}
+use Rattle.smil_audit.proofs.ReplayCourses.{last_fits, own_whole, test_less, until_some, until_whole}
 use Rattle.smil_audit.proofs.replay.Replay.until.Goals as goal
 
 pub returns-in-Some : goal.returns-in-Some

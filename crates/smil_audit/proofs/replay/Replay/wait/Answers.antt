@@ -5,7 +5,7 @@ use Rattle.smil_model.specs.happening.Keys.{DueChange}
 use Rattle.smil_audit.specs.declared.replay.Replay.{Replay}
 use Rattle.smil_audit.specs.Replayed.{IsLastOr, IsLate, IsPassed, IsQuietUntil, first_at, next_logged}
 use Rattle.smil_audit.specs.Steps.{replayed}
-use Rattle.smil_audit.proofs.Replays.{from_is, own_whole, quiet_for, same_moment, test_less, test_not, whole, within_is}
+use Rattle.smil_audit.proofs.ReplayCourses.{from_is, own_whole, quiet_for, same_moment, test_less, test_not, whole, within_is}
 use Rattle.smil_audit.proofs.replay.Replay.wait.Goals as goal
 
 pub pass_to-requires-clause-from : goal.pass_to-requires-clause-from

@@ -3,7 +3,7 @@ use Rattle.std.specs.Prelude.{is_some}
 use Rattle.std.proofs.lemmas.Int.{to_z-of_z}
 use mir.Val.{to_z, of_z}
 use Rattle.smil_cells.specs.CellsState.{CellsState}
-use Rattle.smil_cells.proofs.Undoing.{back_to}
+use Rattle.smil_cells.proofs.CellsBack.{back_to}
 use Rattle.smil_cells.proofs.cells.Cells.back.Goals as goal
 
 pub invariant_of-self : goal.invariant_of-self

@@ -2,8 +2,8 @@ use Rattle.std.proofs.Common.{◌≡◌, sym, subst, None, w64}
 use Rattle.std.proofs.lemmas.Int.{to_z-of_z}
 use mir.Val.{to_z, of_z}
 use Rattle.smil_cells.specs.CellsState.{CellsState}
-use Rattle.smil_rounds.proofs.Moments.{fits}
-use Rattle.smil_cells.proofs.Begun.{copied, no_mark}
+use Rattle.smil_rounds.proofs.MomentEntries.{fits}
+use Rattle.smil_cells.proofs.FirstCells.{copied, no_mark}
 use Rattle.smil_cells.proofs.cells.Cells.copy.Goals as goal
 
 pub invariant_of-result : goal.invariant_of-result

@@ -6,12 +6,12 @@ use Rattle.smil_model.specs.declared.diary.Entry.{Entry}
 use Rattle.smil_model.specs.diary.Diary.{last_moment}
 use Rattle.smil_model.specs.document.Document.{Document}
 use Rattle.smil_laws.specs.Cut.{logged}
-use Rattle.smil_stretch.proofs.Diaries.{lawful_first}
+use Rattle.smil_stretch.proofs.LawfulDiaries.{lawful_first}
 use Rattle.smil_past.specs.Past as past_of
 use Rattle.smil_past.specs.Past.{MarkedHistory, IsPossible, history_of}
 use Rattle.smil_cells.specs.CellsState.{CellsState, IsRebuilt, MayRebuild, WhereTold, any_interval, interval_at}
 use Rattle.smil_cells.specs.Standings.{MayBegin, begun, standing_of}
-use Rattle.smil_cells.proofs.Begun.{moment_is, names_within, possible_part, may_part, rebuilt_is}
+use Rattle.smil_cells.proofs.FirstCells.{moment_is, names_within, possible_part, may_part, rebuilt_is}
 use Rattle.smil_cells.proofs.cells.Cells.front.Given.{Over}
 use Rattle.smil_cells.proofs.cells.Cells.front.Goals as goal
 use Rattle.smil_cells.proofs.cells.Cells.front.Goals.{After-last_moment-moment, After-logged_among-heard}

@@ -13,21 +13,21 @@ use Rattle.smil_past.specs.Past.{MarkedHistory}
 use Rattle.smil_model.specs.declared.limits.TheConstants as limits
 use Rattle.smil_element.specs.declared.happening.change.DueChange.{DueChange as AnyDueChange}
 use Rattle.smil_element.specs.Parts.{coming_meant, meant}
-use Rattle.smil_element.proofs.Latest.{present_fits}
+use Rattle.smil_element.proofs.PresentMoment.{present_fits}
 use Rattle.smil_cells.specs.CellsState.{CellsState, IsFront, IsNext, IsRefusing, WhereTold, first_at, fresh_since}
 use Rattle.smil_rounds.specs.Appended.{MayAppendAll}
 use Rattle.smil_cells.specs.Evaluated.{HasEvaluatedBehind}
 use Rattle.smil_cells.specs.Shown.{TouchesOnly, elements_at, touched_at}
 use Rattle.smil_cells.specs.Standings.{IsSound, IsSoundUnderMark, standing_of}
-use Rattle.smil_cells.proofs.Refusals.{refused_by}
-use Rattle.smil_cells.proofs.Longer.{kept, refusing, with_entries}
-use Rattle.smil_cells.proofs.Grown.{ComesNext, all_now, came_to, fronted, grows_by, least_fresh, made_now, many_now, may, next_steps, reached_after, some_now, stepped}
-use Rattle.smil_cells.proofs.Putting.{stay_before, stay_listed}
-use Rattle.smil_cells.proofs.Evaluating.{evaluated_behind}
-use Rattle.smil_cells.proofs.Touching.{front_of, touches_only}
-use Rattle.smil_cells.proofs.Ordering.{nothing, still_stands}
-use Rattle.smil_rounds.proofs.Following.{of_element}
-use Rattle.smil_rounds.proofs.Moments.{positive, present_with}
+use Rattle.smil_cells.proofs.FullDiaryRefusals.{refused_by}
+use Rattle.smil_cells.proofs.MarkKept.{kept, refusing, with_entries}
+use Rattle.smil_cells.proofs.CellsGrown.{ComesNext, all_now, came_to, fronted, grows_by, least_fresh, made_now, many_now, may, next_steps, reached_after, some_now, stepped}
+use Rattle.smil_cells.proofs.PlacesPut.{stay_before, stay_listed}
+use Rattle.smil_cells.proofs.GroupEvaluations.{evaluated_behind}
+use Rattle.smil_cells.proofs.ElementsTouched.{front_of, touches_only}
+use Rattle.smil_cells.proofs.ElementsByPlace.{nothing, still_stands}
+use Rattle.smil_rounds.proofs.GroupMayFollow.{of_element}
+use Rattle.smil_rounds.proofs.MomentEntries.{positive, present_with}
 use Rattle.smil_cells.proofs.cells.Cells.happen.Given.{Over}
 use Rattle.smil_cells.proofs.cells.Cells.happen.Goals as goal
 use Rattle.smil_cells.proofs.cells.Cells.happen.Goals.{After-len-from, After-possible}

@@ -8,14 +8,14 @@ use Rattle.smil_diary.specs.declared.fault.BookFault.TheVariants.{DiaryFull}
 use Rattle.smil_cells.specs.CellsState.{CellsState, GoesOn, IsFront, IsRefusing, StayTouched, WhereTold, fresh_since, reached_since, with_logged}
 use Rattle.smil_cells.specs.Evaluated.{HasEvaluatedSince}
 use Rattle.smil_cells.specs.Shown.{OnlyChanged, TouchesOnlySince, elements_at, touched_at}
-use Rattle.smil_rounds.proofs.Current.{where_both}
+use Rattle.smil_rounds.proofs.CurrentRowsExact.{where_both}
 use Rattle.smil_model.specs.shown.Orders.{Presentation}
-use Rattle.smil_cells.proofs.Evaluating.{all_changed_heard, evaluated_from, evaluated_heard, only_from}
+use Rattle.smil_cells.proofs.GroupEvaluations.{all_changed_heard, evaluated_from, evaluated_heard, only_from}
 use Rattle.smil_cells.specs.Standings.{standing_of}
-use Rattle.smil_rounds.proofs.Moments.{fits}
-use Rattle.smil_cells.proofs.OnWay.{goes_on_at, goes_on_from, goes_on_new}
-use Rattle.smil_cells.proofs.Onward.{refusing_on, state_on, front_on, goes_on_heard, reached_heard_on, fresh_heard_on, refusing_from}
-use Rattle.smil_cells.proofs.Refusals.{none_is_there, front_is_there, where_three}
+use Rattle.smil_rounds.proofs.MomentEntries.{fits}
+use Rattle.smil_cells.proofs.SettlingSteps.{goes_on_at, goes_on_from, goes_on_new}
+use Rattle.smil_cells.proofs.HeardSettling.{refusing_on, state_on, front_on, goes_on_heard, reached_heard_on, fresh_heard_on, refusing_from}
+use Rattle.smil_cells.proofs.FullDiaryRefusals.{none_is_there, front_is_there, where_three}
 use Rattle.std.proofs.lemmas.Result.{IfErr-weaker, on_ok_weaker}
 use Rattle.smil_cells.proofs.cells.Cells.hear.Goals as goal
 

@@ -4,7 +4,7 @@ use Rattle.smil_model.specs.declared.diary.LogEntry.{LogEntry}
 use Rattle.smil_model.specs.document.Document.{Document}
 use Rattle.smil_past.specs.Past.{MarkedHistory}
 use Rattle.smil_cells.specs.Standings.{MayBegin}
-use Rattle.smil_cells.proofs.Begun.{may_first}
+use Rattle.smil_cells.proofs.FirstCells.{may_first}
 use Rattle.smil_cells.proofs.cells.Cells.new.Goals as goal
 
 pub over-requires : goal.over-requires

@@ -4,9 +4,9 @@ use Rattle.std.proofs.lemmas.Int.{to_z-of_z}
 use Rattle.smil_model.specs.interval.Current.{current_interval}
 use Rattle.smil_past.specs.Past.{IsPresent, history_of}
 use Rattle.smil_cells.specs.CellsState.{WhereTold, any_interval}
-use Rattle.smil_rounds.proofs.Moments.{positive}
+use Rattle.smil_rounds.proofs.MomentEntries.{positive}
 use Rattle.smil_cells.specs.Standings.{IsSoundUnderMark}
-use Rattle.smil_cells.proofs.Begun.{is_present, kept}
+use Rattle.smil_cells.proofs.FirstCells.{is_present, kept}
 use Rattle.smil_cells.proofs.cells.Cells.over.Goals as goal
 
 pub of-requires : goal.of-requires

@@ -5,7 +5,7 @@ use mir.Val.{to_z, of_z}
 use Rattle.smil_cells.specs.CellsState.{CellsState, IsSettled, NothingBefore, history_of}
 use Rattle.smil_laws.specs.Same.{IsSame}
 use Rattle.smil_cells.specs.Standings.{IsSoundUnderMark, standing_of}
-use Rattle.smil_cells.proofs.Passing.{passed, same_passed, settled_passed}
+use Rattle.smil_cells.proofs.QuietMoments.{passed, same_passed, settled_passed}
 use Rattle.smil_cells.proofs.cells.Cells.pass_to.Goals as goal
 
 pub invariant_of-self : goal.invariant_of-self

@@ -5,11 +5,11 @@ use Rattle.smil_model.specs.declared.diary.Entry.{Entry}
 use Rattle.smil_model.specs.declared.diary.LogEntry.{LogEntry}
 use Rattle.smil_model.specs.diary.Diary.{last_moment}
 use Rattle.smil_model.specs.document.Document.{Document}
-use Rattle.smil_stretch.proofs.Diaries.{lawful_first}
+use Rattle.smil_stretch.proofs.LawfulDiaries.{lawful_first}
 use Rattle.smil_past.specs.Past.{MarkedHistory, IsPossible, history_of}
 use Rattle.smil_cells.specs.CellsState.{CellsState, IsRebuilt, MayRebuild, WhereTold, any_interval, cut_log, interval_at}
 use Rattle.smil_cells.specs.Standings.{MayBegin, begun, standing_of}
-use Rattle.smil_cells.proofs.Begun.{moment_is, possible_part, may_part, rebuilt_is}
+use Rattle.smil_cells.proofs.FirstCells.{moment_is, possible_part, may_part, rebuilt_is}
 use Rattle.std.proofs.lemmas.Result.{IfOk-weaker}
 use Rattle.smil_cells.proofs.cells.Cells.rebuilt_over.Goals as goal
 

@@ -8,10 +8,10 @@ use Rattle.smil_cells.specs.CellsState.{CellsState, GoesOn, IsFront, WhereTold, 
 use Rattle.smil_cells.specs.Evaluated.{HasEvaluatedSince}
 use Rattle.smil_cells.specs.Shown.{OnlyChanged, TouchesOnlySince, touched_at}
 use Rattle.smil_cells.specs.Standings.{standing_of}
-use Rattle.smil_cells.proofs.Refusals.{none_is_there, front_is_there}
-use Rattle.smil_cells.proofs.OnWay.{goes_on_from}
+use Rattle.smil_cells.proofs.FullDiaryRefusals.{none_is_there, front_is_there}
+use Rattle.smil_cells.proofs.SettlingSteps.{goes_on_from}
 use Rattle.std.proofs.lemmas.Result.{on_ok_weaker}
-use Rattle.smil_cells.proofs.Evaluating.{all_changed, evaluated_from, only_from}
+use Rattle.smil_cells.proofs.GroupEvaluations.{all_changed, evaluated_from, only_from}
 use Rattle.smil_cells.proofs.cells.Cells.settle.Goals as goal
 
 pub returns-clause-full : goal.returns-clause-full

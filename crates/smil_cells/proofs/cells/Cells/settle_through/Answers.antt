@@ -3,15 +3,15 @@ use Rattle.smil_model.specs.declared.times.TheConstants.{HORIZON as the_horizon}
 use Rattle.smil_model.specs.shown.Orders.{Presentation}
 use Rattle.smil_cells.specs.CellsState.{NothingBefore, CellsState, WhereTold}
 use Rattle.std.proofs.lemmas.Int.{to_z-of_z}
-use Rattle.smil_cells.proofs.OnWay.{IsRest, rested, below, sooner, no_fewer, begun, nothing_reached, nothing_fresh, onward, fewer_free, reached_on, fresh_on, front_later, touched_anew, touched_refused, goes_on, goes_on_new, stay_touched, fresh_at_rest}
+use Rattle.smil_cells.proofs.SettlingSteps.{IsRest, rested, below, sooner, no_fewer, begun, nothing_reached, nothing_fresh, onward, fewer_free, reached_on, fresh_on, front_later, touched_anew, touched_refused, goes_on, goes_on_new, stay_touched, fresh_at_rest}
 use Rattle.smil_model.specs.document.Document.{Document}
 use Rattle.smil_model.specs.document.Valid.{IsNumberedTree}
 use Rattle.smil_model.specs.document.Closure.{has}
 use Rattle.smil_diary.specs.declared.fault.BookFault.TheVariants.{Memory}
 use Rattle.smil_cells.specs.Shown.{elements_at, touched_at}
 use Rattle.smil_cells.specs.Standings.{standing_of}
-use Rattle.smil_cells.proofs.Putting.{passed_at}
-use Rattle.smil_cells.proofs.Evaluating.{evaluated_from, evaluated_on, evaluated_still, none_evaluated, none_touched, touched_at_rest, touched_on}
+use Rattle.smil_cells.proofs.PlacesPut.{passed_at}
+use Rattle.smil_cells.proofs.GroupEvaluations.{evaluated_from, evaluated_on, evaluated_still, none_evaluated, none_touched, touched_at_rest, touched_on}
 use Rattle.smil_cells.proofs.cells.Cells.settle_through.Given.{Over}
 use Rattle.smil_cells.proofs.cells.Cells.settle_through.Goals as goal
 

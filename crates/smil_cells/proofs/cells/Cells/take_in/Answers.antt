@@ -10,19 +10,19 @@ use Rattle.smil_diary.specs.declared.fault.BookFault.{BookFault}
 use Rattle.smil_diary.specs.declared.fault.BookFault.TheVariants as book_fault
 use Rattle.smil_past.specs.Past as past_of
 use Rattle.smil_past.specs.Past.{MarkedHistory}
-use Rattle.smil_element.proofs.Latest.{present_fits}
+use Rattle.smil_element.proofs.PresentMoment.{present_fits}
 use Rattle.smil_cells.specs.CellsState.{CellsState, IsFront, IsHeard, IsRefusing, NothingBefore, WhereTold, fresh_since, with_logged}
 use Rattle.smil_cells.specs.Evaluated.{HasEvaluatedBehind}
 use Rattle.smil_cells.specs.Shown.{TouchesOnly, elements_at, touched_at}
 use Rattle.smil_cells.specs.Standings.{IsSound, IsSoundUnderMark, standing_of}
-use Rattle.smil_rounds.proofs.Moments.{positive}
-use Rattle.smil_cells.proofs.Longer.{kept, refusing, with_entry}
-use Rattle.smil_cells.proofs.Ordering.{nothing, still_stands}
-use Rattle.smil_cells.proofs.Putting.{stay_before, stay_listed}
-use Rattle.smil_cells.proofs.Evaluating.{evaluated_behind}
-use Rattle.smil_cells.proofs.Touching.{front_of, touches_only}
-use Rattle.smil_cells.proofs.Refusals.{refused_by}
-use Rattle.smil_cells.proofs.Hearing.{present_heard, is_log_heard, may_hear, sound_heard, front_heard, current_before, came_heard, least_heard, step_heard}
+use Rattle.smil_rounds.proofs.MomentEntries.{positive}
+use Rattle.smil_cells.proofs.MarkKept.{kept, refusing, with_entry}
+use Rattle.smil_cells.proofs.ElementsByPlace.{nothing, still_stands}
+use Rattle.smil_cells.proofs.PlacesPut.{stay_before, stay_listed}
+use Rattle.smil_cells.proofs.GroupEvaluations.{evaluated_behind}
+use Rattle.smil_cells.proofs.ElementsTouched.{front_of, touches_only}
+use Rattle.smil_cells.proofs.FullDiaryRefusals.{refused_by}
+use Rattle.smil_cells.proofs.CellsHeard.{present_heard, is_log_heard, may_hear, sound_heard, front_heard, current_before, came_heard, least_heard, step_heard}
 use Rattle.smil_cells.proofs.cells.Cells.take_in.Given.{Over}
 use Rattle.smil_cells.proofs.cells.Cells.take_in.Goals as goal
 use Rattle.smil_cells.proofs.cells.Cells.take_in.Goals.{After-len-from, After-possible}

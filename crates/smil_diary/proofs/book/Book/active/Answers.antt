@@ -1,6 +1,6 @@
 use Rattle.std.proofs.Common.{◌∙◌, ap}
 use Rattle.smil_diary.specs.ElementPlaces.{active_by}
-use Rattle.smil_diary.proofs.Elements.{playing}
+use Rattle.smil_diary.proofs.ElementIndex.{playing}
 use Rattle.smil_diary.proofs.book.Book.active.Goals as goal
 
 pub returns : goal.returns

@@ -3,7 +3,7 @@ use Rattle.std.specs.Prelude.{Result, Ok, Err, OnOk, is_ok}
 use Rattle.smil_model.specs.declared.limits.TheConstants.{DIARY_ENTRIES}
 use Rattle.smil_model.specs.declared.diary.Entry.{Entry}
 use Rattle.smil_diary.specs.ElementPlaces.{element_of, noted_at}
-use Rattle.smil_diary.proofs.Elements.{pushed-on, pushed-off}
+use Rattle.smil_diary.proofs.ElementIndex.{pushed-on, pushed-off}
 use Rattle.smil_diary.proofs.book.Book.append.Goals as goal
 
 room-for : {all : List Entry} (before : List Entry) (x : Entry) → all ≡ before ++ x ∷ [] → length before < DIARY_ENTRIES → length all ≤ DIARY_ENTRIES

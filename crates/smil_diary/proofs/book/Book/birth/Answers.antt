@@ -1,5 +1,5 @@
 use Rattle.std.proofs.Common.{◌≡◌, suc, ◌+◌, sym, ◌∙◌, Some, None, arith}
-use Rattle.smil_diary.proofs.Histories.{birth-at}
+use Rattle.smil_diary.proofs.HistoryReadings.{birth-at}
 use Rattle.smil_diary.proofs.book.Book.birth.Goals as goal
 
 pub returns-in-Some-last_birth : goal.returns-in-Some-last_birth

@@ -1,6 +1,6 @@
 use Rattle.std.proofs.Common.{◌&&◌, sym, ap, ◌∙◌}
 use Rattle.smil_diary.specs.ElementPlaces.{element_of, deferred_by}
-use Rattle.smil_diary.proofs.Histories.{deferred-of}
+use Rattle.smil_diary.proofs.HistoryReadings.{deferred-of}
 use Rattle.smil_diary.proofs.book.Book.deferred.Goals as goal
 
 pub returns-then-lives_under : goal.returns-then-lives_under

@@ -2,7 +2,7 @@ use Rattle.std.proofs.Common.{◌≡◌, ◌≤◌, ◌++◌, List, length, ap, 
 use Rattle.smil_model.specs.declared.limits.TheConstants.{DIARY_ENTRIES}
 use Rattle.smil_model.specs.declared.diary.Entry.{Entry}
 use Rattle.smil_diary.specs.ElementPlaces.{element_of, forgotten_at}
-use Rattle.smil_diary.proofs.Elements.{popped-on, pushed-off}
+use Rattle.smil_diary.proofs.ElementIndex.{popped-on, pushed-off}
 use Rattle.smil_diary.proofs.book.Book.drop_last.Goals as goal
 
 fewer : {all : List Entry} (front : List Entry) (x : Entry) → all ≡ front ++ x ∷ [] → length all ≤ DIARY_ENTRIES → length front ≤ DIARY_ENTRIES

@@ -3,7 +3,7 @@ use Rattle.std.specs.List.{count_by}
 use Rattle.std.specs.List.Sorted.{IsNonDecreasing}
 use Rattle.smil_diary.specs.declared.element.ElementPlaces.{ElementPlaces}
 use Rattle.smil_diary.specs.ElementPlaces.{element_of}
-use Rattle.smil_diary.proofs.Finished.{finished-of, finished-own, finished-rise, finished-few, same-parent, other-parent}
+use Rattle.smil_diary.proofs.FinishedIntervals.{finished-of, finished-own, finished-rise, finished-few, same-parent, other-parent}
 use Rattle.smil_diary.proofs.book.Book.finished.Goals as goal
 
 pub returns-then-eq : goal.returns-then-eq

@@ -5,7 +5,7 @@ use Rattle.smil_model.specs.declared.diary.Entry.{Entry}
 use Rattle.smil_model.specs.diary.Diary.{is_step}
 use Rattle.smil_diary.specs.declared.element.ElementPlaces.{ElementPlaces}
 use Rattle.smil_diary.specs.ElementPlaces.{places_of}
-use Rattle.smil_diary.proofs.Elements.{first-of}
+use Rattle.smil_diary.proofs.ElementIndex.{first-of}
 use Rattle.smil_diary.proofs.PlaceLists.{first-within}
 use Rattle.smil_diary.proofs.book.Book.first.Goals as goal
 

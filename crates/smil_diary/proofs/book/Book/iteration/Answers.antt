@@ -3,8 +3,8 @@ use Rattle.std.specs.List.{count_by}
 use Rattle.std.specs.List.Sorted.{IsNonDecreasing}
 use Rattle.smil_model.specs.declared.diary.StepKind.TheVariants as kind
 use Rattle.smil_diary.specs.declared.element.ElementPlaces.{ElementPlaces}
-use Rattle.smil_diary.proofs.Elements.{last-kept}
-use Rattle.smil_diary.proofs.Histories.{repeats-rise, repeats-few, repeats-from, iteration-of, iteration-within, iteration-before, iteration-none}
+use Rattle.smil_diary.proofs.ElementIndex.{last-kept}
+use Rattle.smil_diary.proofs.HistoryReadings.{repeats-rise, repeats-few, repeats-from, iteration-of, iteration-within, iteration-before, iteration-none}
 use Rattle.smil_diary.proofs.book.Book.iteration.Goals as goal
 
 pub repeats_from-requires-clause-rising : goal.repeats_from-requires-clause-rising

@@ -2,8 +2,8 @@ use Rattle.std.proofs.Common.{◌≡◌, ◌<◌, length, sym, subst, ◌∙◌}
 use Rattle.std.specs.Prelude.{IfSome}
 use Rattle.smil_model.specs.declared.diary.Entry.{Entry}
 use Rattle.smil_model.specs.diary.Diary.{is_step, last_step}
-use Rattle.smil_diary.proofs.Elements.{last-kept}
-use Rattle.smil_diary.proofs.Finished.{last-within}
+use Rattle.smil_diary.proofs.ElementIndex.{last-kept}
+use Rattle.smil_diary.proofs.FinishedIntervals.{last-within}
 use Rattle.smil_diary.proofs.book.Book.last.Goals as goal
 
 value-of : (c : goal.After-last) → c.last.result ≡ last_step c.args.self.now c.args.kind c.args.who

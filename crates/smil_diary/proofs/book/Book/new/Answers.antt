@@ -1,6 +1,6 @@
 use Rattle.std.proofs.Common.{length, ap, sym, ◌∙◌, arith}
 use Rattle.smil_diary.specs.ElementPlaces.{element_of}
-use Rattle.smil_diary.proofs.Elements.{no-entries}
+use Rattle.smil_diary.proofs.ElementIndex.{no-entries}
 use Rattle.smil_diary.proofs.book.Book.new.Goals as goal
 
 pub invariant_of-result : goal.invariant_of-result

@@ -1,6 +1,6 @@
 use Rattle.std.proofs.Common.{◌∙◌, ap}
 use Rattle.smil_diary.specs.ElementPlaces.{paused_by}
-use Rattle.smil_diary.proofs.Histories.{paused-of}
+use Rattle.smil_diary.proofs.HistoryReadings.{paused-of}
 use Rattle.smil_diary.proofs.book.Book.paused.Goals as goal
 
 pub returns : goal.returns

@@ -1,7 +1,7 @@
 use Rattle.std.proofs.Common.{◌∙◌, ap, sym}
 use Rattle.smil_diary.specs.declared.element.ElementPlaces.{ElementPlaces}
 use Rattle.smil_diary.specs.ElementPlaces.{kept}
-use Rattle.smil_diary.proofs.Rows.{kept_at, kept_none}
+use Rattle.smil_diary.proofs.IndexRows.{kept_at, kept_none}
 use Rattle.smil_diary.proofs.index.Index.element.Goals as goal
 
 pub returns-in-Some : goal.returns-in-Some

@@ -1,6 +1,6 @@
 use Rattle.std.proofs.Common.{◌∙◌, ap, sym}
 use Rattle.smil_diary.specs.ElementPlaces.{forgotten, forgotten_at, kept, row_of}
-use Rattle.smil_diary.proofs.Rows.{kept_changed, none_forgotten}
+use Rattle.smil_diary.proofs.IndexRows.{kept_changed, none_forgotten}
 use Rattle.smil_diary.proofs.index.Index.forget.Goals as goal
 
 pub returns-in-Some : goal.returns-in-Some

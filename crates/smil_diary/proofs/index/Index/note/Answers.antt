@@ -1,7 +1,7 @@
 use Rattle.std.proofs.Common.{◌∙◌, ap}
 use Rattle.std.proofs.lemmas.Result.{on_ok_weaker}
 use Rattle.smil_diary.specs.ElementPlaces.{kept, noted, noted_at, row_of}
-use Rattle.smil_diary.proofs.Rows.{kept_changed}
+use Rattle.smil_diary.proofs.IndexRows.{kept_changed}
 use Rattle.smil_diary.proofs.index.Index.note.Goals as goal
 
 pub returns-clause-ok : goal.returns-clause-ok

@@ -3,7 +3,7 @@ use Rattle.std.specs.Prelude.{◌==◌, ◌++◌, ◌∷◌, []}
 use Rattle.std.specs.FinMap.{get}
 use Rattle.std.proofs.lemmas.Bool.{eq-eqb}
 use Rattle.smil_diary.specs.ElementPlaces.{kept, nothing, row_of}
-use Rattle.smil_diary.proofs.Rows.{kept_pushed, row_pushed}
+use Rattle.smil_diary.proofs.IndexRows.{kept_pushed, row_pushed}
 use Rattle.smil_diary.proofs.index.Index.row.Goals as goal
 
 pub invariant_of-self-in-Ok : goal.invariant_of-self-in-Ok

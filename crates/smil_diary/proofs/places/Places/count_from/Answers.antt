@@ -3,7 +3,7 @@ use Rattle.std.specs.Prelude.{nat_lt}
 use Rattle.std.specs.List.{count_by}
 use Rattle.std.specs.List.Sorted.{IsNonDecreasing}
 use Rattle.std.proofs.lemmas.List.Sorted.{IsPartitionPoint-from_clause, IsPartitionedBy-ltb}
-use Rattle.smil_diary.proofs.Rising.{count-partition}
+use Rattle.smil_diary.proofs.RisingPlaces.{count-partition}
 use Rattle.smil_diary.proofs.places.Places.count_from.Goals as goal
 
 pub returns : goal.returns

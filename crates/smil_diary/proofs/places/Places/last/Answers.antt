@@ -1,6 +1,6 @@
 use Rattle.std.proofs.Common.{ap, ◌∙◌, length, ◌-◌}
 use Rattle.std.specs.Prelude.{slice_get}
-use Rattle.smil_diary.proofs.Rising.{last-is}
+use Rattle.smil_diary.proofs.RisingPlaces.{last-is}
 use Rattle.smil_diary.proofs.places.Places.last.Goals as goal
 
 pub returns-in-Some : goal.returns-in-Some

@@ -1,7 +1,7 @@
 use Rattle.std.proofs.Common.{◌∙◌, ap, sym}
 use Rattle.std.specs.FinSet as set
 use Rattle.smil_due.specs.Order.{key_cmp_total}
-use Rattle.smil_due.proofs.Sets.{removed}
+use Rattle.smil_due.proofs.KeySets.{removed}
 use Rattle.smil_due.proofs.queue.DueQueue.drop_key.Goals as goal
 
 pub returns-clause-was : goal.returns-clause-was

@@ -2,7 +2,7 @@ use Rattle.std.proofs.Common.{◌≡◌, ◌∙◌, sym, subst, rules}
 use Rattle.std.specs.FinSet as set
 use Rattle.std.specs.Option.{IfSome}
 use Rattle.smil_due.specs.Laws.{IsLeast}
-use Rattle.smil_due.proofs.Sets.{first_key, first_is_least, no_first, first_of_none, least_by_model}
+use Rattle.smil_due.proofs.KeySets.{first_key, first_is_least, no_first, first_of_none, least_by_model}
 use Rattle.smil_due.proofs.queue.DueQueue.least.Goals as goal
 
 key_is : (c : goal.After-map) → c.map.result ≡ first_key c.first.result

@@ -1,6 +1,6 @@
 use Rattle.std.proofs.Common.{◌∙◌, ap}
 use Rattle.std.specs.FinSet as set
-use Rattle.smil_due.proofs.Sets.{inserted}
+use Rattle.smil_due.proofs.KeySets.{inserted}
 use Rattle.smil_due.proofs.queue.DueQueue.put.Goals as goal
 
 pub returns-clause-ok : goal.returns-clause-ok

@@ -3,7 +3,7 @@ use Rattle.std.specs.Iterator.Adapters.{rev_source}
 use Rattle.std.proofs.lemmas.List.{append-nil}
 use Rattle.smil_model.specs.declared.document.Node.{Node}
 use Rattle.smil_model.specs.happening.Groups.{at_moment, cut_steps}
-use Rattle.smil_element.proofs.Cutting.{one_less}
+use Rattle.smil_element.proofs.CutsJoined.{one_less}
 use Rattle.smil_element.proofs.happening.cuts.cut_below.Goals as goal
 
 pub loop-node-init : goal.loop-node-init

@@ -3,7 +3,7 @@ use Rattle.std.specs.Prelude.{OnOk}
 use Rattle.smil_model.specs.declared.diary.Entry.{Entry}
 use Rattle.smil_model.specs.happening.Groups.{at_moment}
 use Rattle.smil_element.specs.Parts.{cuts_below}
-use Rattle.smil_element.proofs.Cutting.{joined}
+use Rattle.smil_element.proofs.CutsJoined.{joined}
 use Rattle.smil_element.proofs.happening.cuts.stop.Goals as goal
 
 pub returns : goal.returns

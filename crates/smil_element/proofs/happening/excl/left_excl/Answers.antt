@@ -2,7 +2,7 @@ use Rattle.std.proofs.Common.{sym, ap, ◌∙◌, List, true, false}
 use Rattle.smil_model.specs.declared.document.Node.{Node}
 use Rattle.smil_model.specs.document.Document.{serial_of, time_parent}
 use Rattle.smil_past.specs.Queues.{excl_in}
-use Rattle.smil_element.proofs.Finding.{no_left, left_is}
+use Rattle.smil_element.proofs.PlayingChild.{no_left, left_is}
 use Rattle.smil_model.specs.reach.Reach.{is_option}
 use Rattle.smil_element.proofs.happening.excl.left_excl.Goals as goal
 

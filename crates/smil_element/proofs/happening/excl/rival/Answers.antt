@@ -2,7 +2,7 @@ use Rattle.std.proofs.Common.{sym, ap, ◌∙◌, List}
 use Rattle.smil_model.specs.declared.document.Node.{Node}
 use Rattle.smil_model.specs.document.Document.{serial_of, time_parent}
 use Rattle.smil_past.specs.Queues.{excl_in}
-use Rattle.smil_element.proofs.Finding.{no_rival, rival_is}
+use Rattle.smil_element.proofs.PlayingChild.{no_rival, rival_is}
 use Rattle.smil_element.proofs.happening.excl.rival.Goals as goal
 
 pub returns-in_err-excl : goal.returns-in_err-excl

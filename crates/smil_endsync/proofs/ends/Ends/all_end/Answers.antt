@@ -4,7 +4,7 @@ use Rattle.smil_model.specs.declared.times.Time.{Time}
 use Rattle.smil_model.specs.declared.times.Time.TheVariants.{Unresolved}
 use Rattle.smil_model.specs.interval.Durations.{all_end}
 use Rattle.smil_endsync.specs.declared.ends.EndSummary.{EndSummary}
-use Rattle.smil_endsync.proofs.Summaries.{all_is, sum_of, sums}
+use Rattle.smil_endsync.proofs.ChildSummaries.{all_is, sum_of, sums}
 use Rattle.smil_endsync.proofs.ends.Ends.all_end.Goals as goal
 
 pub returns-in-Some : goal.returns-in-Some

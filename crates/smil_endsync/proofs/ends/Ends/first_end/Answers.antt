@@ -1,7 +1,7 @@
 use Rattle.std.proofs.Common.{◌∙◌, ap}
 use Rattle.smil_model.specs.interval.Durations.{first_end}
 use Rattle.smil_endsync.specs.declared.ends.EndSummary.{EndSummary}
-use Rattle.smil_endsync.proofs.Summaries.{first_is, sum_of, sums}
+use Rattle.smil_endsync.proofs.ChildSummaries.{first_is, sum_of, sums}
 use Rattle.smil_endsync.proofs.ends.Ends.first_end.Goals as goal
 
 pub returns-in-Some : goal.returns-in-Some

@@ -5,8 +5,8 @@ use Rattle.smil_model.specs.declared.times.Time.{Time}
 use Rattle.smil_model.specs.declared.times.Time.TheVariants.{At}
 use Rattle.smil_model.specs.interval.Durations.{last_end}
 use Rattle.smil_endsync.specs.declared.ends.EndSummary.{EndSummary}
-use Rattle.smil_endsync.proofs.Children.{latest_is_reduced}
-use Rattle.smil_endsync.proofs.Summaries.{latest_is, sum_of, sums}
+use Rattle.smil_endsync.proofs.ChildEndFolds.{latest_is_reduced}
+use Rattle.smil_endsync.proofs.ChildSummaries.{latest_is, sum_of, sums}
 use Rattle.smil_endsync.proofs.ends.Ends.last_end.Goals as goal
 
 pub returns-in-Some : goal.returns-in-Some

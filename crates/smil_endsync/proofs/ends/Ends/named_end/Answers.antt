@@ -6,7 +6,7 @@ use Rattle.std.proofs.lemmas.Int.{to_z-of_z}
 use Rattle.std.proofs.lemmas.List.Quantifiers.{position-Some}
 use Rattle.smil_model.specs.declared.interval.ChildEnd.{ChildEnd}
 use Rattle.smil_model.specs.interval.Durations.{last_end, named_end}
-use Rattle.smil_endsync.proofs.Naming.{named_found, nobody_named}
+use Rattle.smil_endsync.proofs.NamedChild.{named_found, nobody_named}
 use Rattle.smil_endsync.proofs.ends.Ends.named_end.Goals as goal
 
 pub returns-in-Some : goal.returns-in-Some

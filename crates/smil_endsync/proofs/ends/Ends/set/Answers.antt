@@ -3,7 +3,7 @@ use Rattle.std.proofs.Common.{◌∙◌, ap, sym, subst, List, length, set, arit
 use Rattle.smil_model.specs.declared.interval.ChildEnd.{ChildEnd}
 use Rattle.smil_endsync.specs.declared.ends.EndSummary.{EndSummary}
 use Rattle.smil_endsync.specs.Ends.{set_ends, AreSummed}
-use Rattle.smil_endsync.proofs.Naming.{long_enough, set_kept, summed_next}
+use Rattle.smil_endsync.proofs.NamedChild.{long_enough, set_kept, summed_next}
 use Rattle.smil_endsync.proofs.ends.Ends.set.Goals as goal
 
 pub put_summary-requires : goal.put_summary-requires

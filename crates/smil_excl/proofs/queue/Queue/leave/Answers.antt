@@ -1,7 +1,7 @@
 use Rattle.std.proofs.Common.{rules}
 use Rattle.std.proofs.lemmas.Fn.{filter_same}
 use Rattle.smil_excl.specs.QueueState.{without}
-use Rattle.smil_excl.proofs.Line.{changed}
+use Rattle.smil_excl.proofs.QueuePlaces.{changed}
 use Rattle.smil_excl.proofs.queue.Queue.leave.Goals as goal
 
 pub returns-clause-rest : goal.returns-clause-rest

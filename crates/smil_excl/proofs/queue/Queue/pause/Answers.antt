@@ -3,7 +3,7 @@ use Rattle.std.specs.Prelude.{nat_le}
 use Rattle.std.specs.List.{insert, position_or_len}
 use Rattle.smil_excl.specs.declared.queued_child.QueuedChild.{QueuedChild}
 use Rattle.smil_excl.specs.QueueState.{paused_before}
-use Rattle.smil_excl.proofs.Line.{changed, put_at, or_length}
+use Rattle.smil_excl.proofs.QueuePlaces.{changed, put_at, or_length}
 use Rattle.smil_excl.proofs.queue.Queue.pause.Goals as goal
 
 pub returns : goal.returns

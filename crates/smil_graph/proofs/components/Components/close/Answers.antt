@@ -2,7 +2,7 @@ use Rattle.std.proofs.Common.{arith, ◌≡◌, ◌<◌, ap, sym, ◌∙◌, len
 use Rattle.std.proofs.lemmas.List.{take_rest}
 use Rattle.smil_model.specs.document.Closure.{has}
 use Rattle.smil_graph.specs.Components.{Grouping}
-use Rattle.smil_graph.proofs.Closed.{from_drop}
+use Rattle.smil_graph.proofs.SearchLeaves.{from_drop}
 use Rattle.smil_graph.proofs.components.Components.close.Goals as goal
 
 pub mark_all-requires : goal.mark_all-requires

@@ -1,5 +1,5 @@
 use Rattle.std.proofs.Common.{sym}
-use Rattle.smil_graph.proofs.Stepped.{none_open}
+use Rattle.smil_graph.proofs.SearchSteps.{none_open}
 use Rattle.smil_graph.proofs.components.Components.follow.Goals as goal
 
 pub returns-clause-none_open : goal.returns-clause-none_open

@@ -2,9 +2,9 @@ use Rattle.std.proofs.Common.{arith, ◌≡◌, true}
 use Rattle.std.proofs.lemmas.Result.{on_ok_weaker}
 use Rattle.smil_model.specs.document.Closure.{has}
 use Rattle.smil_graph.specs.Links.{row}
-use Rattle.smil_graph.proofs.Lists.{has_get}
-use Rattle.smil_graph.proofs.Closed.{members_below}
-use Rattle.smil_graph.proofs.Stepped.{top_stands, place_below, link_step_at, leave_step_at}
+use Rattle.smil_graph.proofs.PlaceLists.{has_get}
+use Rattle.smil_graph.proofs.SearchLeaves.{members_below}
+use Rattle.smil_graph.proofs.SearchSteps.{top_stands, place_below, link_step_at, leave_step_at}
 use Rattle.smil_graph.proofs.components.Components.step.Goals as goal
 
 pub place_at-place-requires : goal.place_at-place-requires

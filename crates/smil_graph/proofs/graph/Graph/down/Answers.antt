@@ -4,7 +4,7 @@ use Rattle.std.proofs.lemmas.Result.{IfOk-weaker}
 use Rattle.std.proofs.lemmas.List.{append-nil}
 use Rattle.smil_model.specs.reach.Reach.{down_from}
 use Rattle.smil_graph.specs.Graph.{OrderedNodes}
-use Rattle.smil_graph.proofs.Answered.{is_placed, reach_there, reach_absent}
+use Rattle.smil_graph.proofs.GraphAnswers.{is_placed, reach_there, reach_absent}
 use Rattle.smil_graph.proofs.graph.Graph.down.Goals as goal
 
 pub reach_at-requires-clause-element : goal.reach_at-requires-clause-element

@@ -4,7 +4,7 @@ use Rattle.smil_model.specs.reach.Reach.{down_key, waiters}
 use Rattle.smil_graph.specs.Graph.{OrderedNodes}
 use Rattle.smil_graph.specs.Links.{row}
 use Rattle.smil_graph.specs.Tables.{AreOf}
-use Rattle.smil_graph.proofs.Keyed.{waiters_are, waiters_elements}
+use Rattle.smil_graph.proofs.KeyRows.{waiters_are, waiters_elements}
 use Rattle.smil_graph.proofs.graph.Graph.down_key.Goals as goal
 
 pub reach_from-requires-clause-elements : goal.reach_from-requires-clause-elements

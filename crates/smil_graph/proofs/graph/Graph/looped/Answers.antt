@@ -3,7 +3,7 @@ use Rattle.std.specs.FinMap.{get}
 use Rattle.smil_model.specs.declared.document.Edge.TheVariants.{Begin, End}
 use Rattle.smil_graph.specs.Graph.{looped_at, OrderedNodes}
 use Rattle.smil_graph.specs.Tables.{marked_at}
-use Rattle.smil_graph.proofs.Answered.{marks_answer}
+use Rattle.smil_graph.proofs.GraphAnswers.{marks_answer}
 use Rattle.smil_graph.proofs.graph.Graph.looped.Goals as goal
 
 pub returns-in-Begin : goal.returns-in-Begin

@@ -2,7 +2,7 @@ use Rattle.std.proofs.Common.{◌∙◌, ap}
 use Rattle.std.specs.FinMap.{get}
 use Rattle.smil_graph.specs.Graph.{readers_of, OrderedNodes}
 use Rattle.smil_graph.specs.Tables.{row_of}
-use Rattle.smil_graph.proofs.Answered.{readers_answer}
+use Rattle.smil_graph.proofs.GraphAnswers.{readers_answer}
 use Rattle.smil_graph.proofs.graph.Graph.readers.Goals as goal
 
 pub returns : goal.returns

@@ -1,6 +1,6 @@
 use Rattle.std.proofs.Common.{◌∙◌, ap, sym, subst}
 use Rattle.std.specs.Prelude.{IfSome, option_and_then}
-use Rattle.smil_house.proofs.Held.{at_found, named_at}
+use Rattle.smil_house.proofs.PresentationsByName.{at_found, named_at}
 use Rattle.smil_house.specs.Next.{NothingChangesBefore, next_of}
 use Rattle.smil_house.proofs.house.House.next_due.Goals as goal
 

@@ -1,6 +1,6 @@
 use Rattle.std.proofs.Common.{◌∙◌, ap, sym}
 use Rattle.std.specs.Prelude.{option_and_then, slice_get}
-use Rattle.smil_house.proofs.Held.{at_found, named_at}
+use Rattle.smil_house.proofs.PresentationsByName.{at_found, named_at}
 use Rattle.smil_house.specs.Screen.{screen_of}
 use Rattle.smil_house.proofs.house.House.on_screen.Goals as goal
 

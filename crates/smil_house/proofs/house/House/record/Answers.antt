@@ -1,7 +1,7 @@
 use Rattle.std.proofs.Common.{◌≡◌, ◌∙◌, inr, arith, to_z, of_z, w64}
 use Rattle.std.proofs.lemmas.Int.{ints}
 use Rattle.std.proofs.lemmas.Result.{err_from_is_err_and}
-use Rattle.smil_house.proofs.Held.{at_found, turned_to}
+use Rattle.smil_house.proofs.PresentationsByName.{at_found, turned_to}
 use Rattle.smil_house.specs.House.{IsAt}
 use Rattle.smil_house.proofs.house.House.record.Given.{Over}
 use Rattle.smil_house.proofs.house.House.record.Goals as goal

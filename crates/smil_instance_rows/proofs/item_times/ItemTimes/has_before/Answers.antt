@@ -1,7 +1,7 @@
 use Rattle.std.proofs.Common.{◌∙◌, sym, ap}
 use Rattle.std.proofs.lemmas.Bool.{ltb-false}
 use Rattle.smil_instance_rows.specs.Rows.{from_place}
-use Rattle.smil_instance_rows.proofs.InOrder.{from_front}
+use Rattle.smil_instance_rows.proofs.TimesByPlace.{from_front}
 use Rattle.smil_instance_rows.proofs.item_times.ItemTimes.has_before.Goals as goal
 
 pub returns-in-Some : goal.returns-in-Some

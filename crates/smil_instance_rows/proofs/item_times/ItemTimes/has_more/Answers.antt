@@ -1,6 +1,6 @@
 use Rattle.std.proofs.Common.{sym, ◌≤◌, ap, length, arith}
 use Rattle.std.proofs.lemmas.Bool.{ltb-false}
-use Rattle.smil_instance_rows.proofs.InOrder.{last_of_few}
+use Rattle.smil_instance_rows.proofs.TimesByPlace.{last_of_few}
 use Rattle.smil_instance_rows.proofs.item_times.ItemTimes.has_more.Goals as goal
 
 pub returns : goal.returns

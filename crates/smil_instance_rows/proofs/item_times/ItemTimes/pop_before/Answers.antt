@@ -1,7 +1,7 @@
 use Rattle.std.proofs.Common.{refl, ◌∙◌, sym, ap, subst}
 use Rattle.smil_instance_rows.specs.Places.{IsInOrder}
 use Rattle.smil_instance_rows.specs.Rows.{from_place}
-use Rattle.smil_instance_rows.proofs.InOrder.{from_front, rest_in_order}
+use Rattle.smil_instance_rows.proofs.TimesByPlace.{from_front, rest_in_order}
 use Rattle.smil_instance_rows.proofs.item_times.ItemTimes.pop_before.Goals as goal
 
 pub returns-then-first-place-clause-none : goal.returns-then-first-place-clause-none

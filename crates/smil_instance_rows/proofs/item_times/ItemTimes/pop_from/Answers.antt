@@ -1,7 +1,7 @@
 use Rattle.std.proofs.Common.{refl, ◌∙◌, sym, ap, get_or}
 use Rattle.std.specs.Prelude.{◌-◌}
 use Rattle.smil_instance_rows.specs.Rows.{before_place}
-use Rattle.smil_instance_rows.proofs.InOrder.{before_back}
+use Rattle.smil_instance_rows.proofs.TimesByPlace.{before_back}
 use Rattle.smil_instance_rows.proofs.item_times.ItemTimes.pop_from.Goals as goal
 
 pub returns-then-last-place-clause-none : goal.returns-then-last-place-clause-none

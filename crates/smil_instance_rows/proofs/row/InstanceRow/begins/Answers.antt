@@ -1,7 +1,7 @@
 use Rattle.std.proofs.Common.{◌∙◌, ap}
 use Rattle.smil_instance_rows.specs.Rows.{ElementTimes}
 use Rattle.smil_instance_rows.specs.Values.{begins_of}
-use Rattle.smil_instance_rows.proofs.Sides.{begins_same}
+use Rattle.smil_instance_rows.proofs.SideValues.{begins_same}
 use Rattle.smil_instance_rows.proofs.row.InstanceRow.begins.Goals as goal
 
 pub returns : goal.returns

@@ -9,7 +9,7 @@ use Rattle.smil_model.specs.interval.Instances.{number_of}
 use Rattle.smil_instance_rows.specs.Rows.{ElementTimes}
 use Rattle.smil_instance_rows.specs.Values.{merged}
 use Rattle.smil_instance_rows.specs.Readings.{first_from, row_times}
-use Rattle.smil_instance_rows.proofs.Sides.{begin_found, end_found}
+use Rattle.smil_instance_rows.proofs.SideValues.{begin_found, end_found}
 use Rattle.smil_instance_rows.proofs.row.InstanceRow.first_from.Goals as goal
 
 pub returns-in-Begin : goal.returns-in-Begin

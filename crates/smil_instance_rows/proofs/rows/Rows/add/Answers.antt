@@ -1,5 +1,5 @@
 use Rattle.std.proofs.Common.{◌∙◌, sym, ap, length, ◌<◌, arith}
-use Rattle.smil_instance_rows.proofs.Serials.{index_kept}
+use Rattle.smil_instance_rows.proofs.RowsBySerial.{index_kept}
 use Rattle.smil_instance_rows.proofs.rows.Rows.add.Goals as goal
 
 pub invariant_of-self : goal.invariant_of-self

@@ -2,7 +2,7 @@ use Rattle.std.proofs.Common.{◌∙◌, sym, ap, List, arith}
 use Rattle.std.proofs.lemmas.List.{take_at}
 use Rattle.smil_instance_rows.specs.Rows.{ElementTimes, rows_before}
 use Rattle.smil_instance_rows.specs.Readings.{index_in}
-use Rattle.smil_instance_rows.proofs.Serials.{index_before}
+use Rattle.smil_instance_rows.proofs.RowsBySerial.{index_before}
 use Rattle.smil_instance_rows.proofs.rows.Rows.cut_later.Goals as goal
 
 pub invariant_of-self : goal.invariant_of-self

@@ -2,7 +2,7 @@ use Rattle.std.proofs.Common.{◌∙◌, sym, ap, length, Some}
 use Rattle.std.specs.Prelude.{cond, ◌==◌}
 use Rattle.std.specs.FinMap.{get}
 use Rattle.smil_instance_rows.specs.Readings.{index_in}
-use Rattle.smil_instance_rows.proofs.Serials.{index_pushed}
+use Rattle.smil_instance_rows.proofs.RowsBySerial.{index_pushed}
 use Rattle.smil_instance_rows.proofs.rows.Rows.push.Goals as goal
 
 pub invariant_of-self-in-Ok : goal.invariant_of-self-in-Ok

@@ -1,7 +1,7 @@
 use Rattle.std.proofs.Common.{◌∙◌, sym, ap, length, ◌<◌, ◌≤◌, arith}
 use Rattle.smil_instance_rows.specs.Rows.{ElementTimes}
 use Rattle.smil_instance_rows.specs.Notes.{times_put}
-use Rattle.smil_instance_rows.proofs.Serials.{index_kept}
+use Rattle.smil_instance_rows.proofs.RowsBySerial.{index_kept}
 use Rattle.smil_instance_rows.proofs.Noted.{put_past, put_set}
 use Rattle.smil_instance_rows.proofs.rows.Rows.restore.Goals as goal
 

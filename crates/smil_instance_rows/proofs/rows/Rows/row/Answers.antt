@@ -1,6 +1,6 @@
 use Rattle.std.proofs.Common.{◌≡◌, ◌∙◌, ap, Some, None}
 use Rattle.smil_instance_rows.specs.Readings.{index_in}
-use Rattle.smil_instance_rows.proofs.Serials.{found, row_placed}
+use Rattle.smil_instance_rows.proofs.RowsBySerial.{found, row_placed}
 use Rattle.smil_instance_rows.proofs.rows.Rows.row.Goals as goal
 
 pub returns-in-Some : goal.returns-in-Some

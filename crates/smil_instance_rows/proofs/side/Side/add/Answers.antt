@@ -1,7 +1,7 @@
 use Rattle.std.proofs.Common.{◌≡◌, ◌∙◌, sym, ap, ◌<◌, length, arith, Ok, Err}
 use Rattle.std.specs.Prelude.{OnOk, OnErr, Result, set}
 use Rattle.smil_instance_rows.specs.Values.{merged, with_value}
-use Rattle.smil_instance_rows.proofs.Merge.{merged_push, set_same}
+use Rattle.smil_instance_rows.proofs.MergedValues.{merged_push, set_same}
 use Rattle.smil_instance_rows.proofs.side.Side.add.Goals as goal
 
 by_result : {X E A B C D G : Type 0} (r : Result X E) → OnOk r A → OnOk r B → OnErr r C → OnErr r D → (A → B → G) → (C → D → G) → G

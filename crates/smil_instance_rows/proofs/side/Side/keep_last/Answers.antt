@@ -1,5 +1,5 @@
 use Rattle.std.proofs.Common.{ap, ◌<◌, length, arith}
-use Rattle.smil_instance_rows.proofs.Merge.{merged_replaced}
+use Rattle.smil_instance_rows.proofs.MergedValues.{merged_replaced}
 use Rattle.smil_instance_rows.proofs.side.Side.keep_last.Goals as goal
 
 pub invariant_of-self : goal.invariant_of-self

@@ -1,8 +1,8 @@
 use Rattle.std.proofs.Common.{◌≡◌, ◌∙◌, sym, ap, subst, ◌<◌, length, arith, [], ◌∷◌, ◌++◌}
 use Rattle.std.specs.Prelude.{get_or, set}
 use Rattle.smil_instance_rows.specs.Values.{merged}
-use Rattle.smil_instance_rows.proofs.Merge.{merged_undo, has_last}
-use Rattle.smil_model.proofs.Rising.{default_free}
+use Rattle.smil_instance_rows.proofs.MergedValues.{merged_undo, has_last}
+use Rattle.smil_model.proofs.RisingLists.{default_free}
 use Rattle.smil_instance_rows.proofs.side.Side.undo.Goals as goal
 
 pub invariant_of-self : goal.invariant_of-self

@@ -2,7 +2,7 @@ use Rattle.std.proofs.Common.{◌≡◌, ◌∙◌, sym, subst, List, rules, tes
 use Rattle.std.specs.Prelude.{not, find, slice_get}
 use Rattle.std.proofs.lemmas.List.Sorted.{IsPartitionPoint-from_clause}
 use Rattle.smil_model.specs.Rising.{IsRising}
-use Rattle.smil_model.proofs.Rising.{find_after, parted_after}
+use Rattle.smil_model.proofs.RisingLists.{find_after, parted_after}
 use Rattle.smil_instance_rows.proofs.sorted.SortedList.first_after.Goals as goal
 
 pub returns : goal.returns

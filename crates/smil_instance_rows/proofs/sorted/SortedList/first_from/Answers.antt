@@ -1,6 +1,6 @@
 use Rattle.std.proofs.Common.{◌∙◌, subst, List}
 use Rattle.smil_model.specs.Rising.{IsPlaceFrom}
-use Rattle.smil_model.proofs.Rising.{find_at}
+use Rattle.smil_model.proofs.RisingLists.{find_at}
 use Rattle.smil_instance_rows.proofs.sorted.SortedList.first_from.Goals as goal
 
 pub returns : goal.returns

@@ -2,8 +2,8 @@ use Rattle.std.proofs.Common.{◌≡◌, ◌∙◌, sym, ap, subst, List, length
 use Rattle.std.proofs.lemmas.Bool.{not-true, not-false}
 use Rattle.std.specs.Prelude.{get_or}
 use Rattle.smil_model.specs.Rising.{IsPlaceFrom, taken_out}
-use Rattle.smil_model.proofs.Rising.{default_free}
-use Rattle.smil_model.proofs.Rising.{remove_here, none_from_place}
+use Rattle.smil_model.proofs.RisingLists.{default_free}
+use Rattle.smil_model.proofs.RisingLists.{remove_here, none_from_place}
 use Rattle.smil_instance_rows.proofs.sorted.SortedList.take_out.Goals as goal
 use Rattle.smil_instance_rows.proofs.sorted.SortedList.take_out.Goals.{else-place-len-via-then-place-len+else-not-is_before, else-place-len-via-else-place-len}
 

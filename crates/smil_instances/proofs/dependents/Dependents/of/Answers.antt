@@ -3,7 +3,7 @@ use Rattle.std.proofs.Math.Seq.{take-append_seam}
 use Rattle.smil_instances.specs.Sources.{AreThose}
 use Rattle.smil_instances.specs.Dependents.{AreDependentsOf, ElementDependents, keyed_in}
 use Rattle.smil_instances.specs.Keys.{is_for_key}
-use Rattle.smil_instances.proofs.Spreading.{all_concerned, fresh_sources}
+use Rattle.smil_instances.proofs.CellSpreading.{all_concerned, fresh_sources}
 use Rattle.smil_instances.proofs.dependents.Dependents.of.Goals as goal
 
 pub fill-requires-clause-sources : goal.fill-requires-clause-sources

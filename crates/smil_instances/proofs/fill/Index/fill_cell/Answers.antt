@@ -3,7 +3,7 @@ use Rattle.smil_model.specs.document.Document.{elements}
 use Rattle.std.proofs.lemmas.Result.{on_ok_weaker}
 use Rattle.std.specs.Prelude.{slice_get}
 use Rattle.smil_instances.specs.Dependents.{ElementDependents, source_or, sources_of}
-use Rattle.smil_instances.proofs.Spreading.{cell_noted, row_below, source_here}
+use Rattle.smil_instances.proofs.CellSpreading.{cell_noted, row_below, source_here}
 use Rattle.smil_instances.proofs.fill.Index.fill_cell.Goals as goal
 
 pub returns : goal.returns

@@ -3,8 +3,8 @@ use Rattle.smil_model.specs.document.Document.{elements}
 use Rattle.smil_instances.specs.Sources.{concerns_cell}
 use Rattle.smil_instances.specs.Dependents.{ElementDependents, sources_of}
 use Rattle.smil_instances.specs.Spread.{first_items, goes_to_all, side_items}
-use Rattle.smil_instances.proofs.Growth.{sources_stay, takes_none, takes_same, takes_then}
-use Rattle.smil_instances.proofs.Spreading.{items_all, items_next, no_items, row_below}
+use Rattle.smil_instances.proofs.CellGrowth.{sources_stay, takes_none, takes_same, takes_then}
+use Rattle.smil_instances.proofs.CellSpreading.{items_all, items_next, no_items, row_below}
 use Rattle.smil_instances.proofs.fill.Index.fill_side.Goals as goal
 
 pub loop-item-init : goal.loop-item-init

@@ -4,7 +4,7 @@ use Rattle.std.specs.FinMap.{get}
 use Rattle.smil_instances.specs.Dependents.{ElementDependents}
 use Rattle.smil_instances.specs.Spread.{Takes, goes_to, with_one}
 use Rattle.std.proofs.lemmas.Result.{on_ok_weaker}
-use Rattle.smil_instances.proofs.Growth.{index_below, noted, noted_none}
+use Rattle.smil_instances.proofs.CellGrowth.{index_below, noted, noted_none}
 use Rattle.smil_instances.proofs.fill.Index.note.Goals as goal
 
 pub returns-in-None : goal.returns-in-None

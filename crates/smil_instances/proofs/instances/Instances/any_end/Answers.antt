@@ -2,7 +2,7 @@ use Rattle.std.proofs.Common.{◌∙◌, ap}
 use Rattle.smil_instances.specs.Instances.{SettledInstances}
 use Rattle.smil_instance_rows.specs.Readings.{ends_in}
 use Rattle.smil_model.specs.interval.Intervals.{has_any}
-use Rattle.smil_instances.proofs.Readings.{ends_told}
+use Rattle.smil_instances.proofs.RowReadings.{ends_told}
 use Rattle.smil_instances.proofs.instances.Instances.any_end.Goals as goal
 
 pub returns-clause-model : goal.returns-clause-model

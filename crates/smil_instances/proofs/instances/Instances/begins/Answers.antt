@@ -1,7 +1,7 @@
 use Rattle.std.proofs.Common.{◌∙◌, ap}
 use Rattle.smil_instances.specs.Instances.{SettledInstances}
 use Rattle.smil_instance_rows.specs.Readings.{begins_in}
-use Rattle.smil_instances.proofs.Readings.{begins_told}
+use Rattle.smil_instances.proofs.RowReadings.{begins_told}
 use Rattle.smil_instances.proofs.instances.Instances.begins.Goals as goal
 
 pub returns-clause-model : goal.returns-clause-model

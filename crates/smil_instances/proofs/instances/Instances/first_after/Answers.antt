@@ -2,7 +2,7 @@ use Rattle.std.proofs.Common.{◌∙◌, ap, w64}
 use Rattle.std.proofs.lemmas.Int.{to_z-of_z}
 use Rattle.smil_instances.specs.Instances.{SettledInstances}
 use Rattle.smil_instance_rows.specs.Readings.{first_after, times_in}
-use Rattle.smil_instances.proofs.Readings.{times_told}
+use Rattle.smil_instances.proofs.RowReadings.{times_told}
 use Rattle.smil_instances.proofs.instances.Instances.first_after.Goals as goal
 
 pub returns-clause-model : goal.returns-clause-model

@@ -2,10 +2,10 @@ use Rattle.std.proofs.Common.{◌∙◌, sym, ap, refl, subst, ◌∷◌, ◌++�
 use Rattle.std.proofs.lemmas.List.{take_all}
 use Rattle.smil_model.specs.declared.diary.Entry.{Entry}
 use Rattle.smil_stretch.specs.Clocks.{AreClocksOf}
-use Rattle.smil_stretch.proofs.Idle.{next_at, no_entry}
+use Rattle.smil_stretch.proofs.IdleClocks.{next_at, no_entry}
 use Rattle.smil_instances.specs.SettledTimes.{settled_rows}
 use Rattle.smil_instances.specs.Intake.{history_of, history_with}
-use Rattle.smil_instances.proofs.Rebuilt.{at_hand, lawful_of, next_front, next_is, next_lawful}
+use Rattle.smil_instances.proofs.DiaryTakenIn.{at_hand, lawful_of, next_front, next_is, next_lawful}
 use Rattle.smil_instances.proofs.instances.Instances.rows_of.Goals as goal
 
 pub of-requires : goal.of-requires

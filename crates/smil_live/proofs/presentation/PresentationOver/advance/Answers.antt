@@ -2,12 +2,12 @@ use Rattle.std.proofs.Common.{nat_abs, ◌≡◌, sym, subst, ◌-◌, ◌≤◌
 use Rattle.std.proofs.lemmas.Int.{ints}
 use Rattle.smil_model.specs.declared.order.Order.TheVariants as order
 use Rattle.smil_model.specs.shown.Orders.{IsState, Presentation, as_of}
-use Rattle.smil_tree.proofs.Results.{on_err}
+use Rattle.smil_tree.proofs.ResultClauses.{on_err}
 use Rattle.smil_cells.specs.CellsState.{WhereTold}
 use Rattle.smil_live.specs.Counts.{least_onward, most_onward}
 use Rattle.smil_live.specs.Moves.{IsTooFull}
 use Rattle.smil_live.proofs.CountedOrders.{bounded_accepted, bounded_too_full}
-use Rattle.smil_live.proofs.Outcomes.{advanced_to, clock_from}
+use Rattle.smil_live.proofs.OrderOutcomes.{advanced_to, clock_from}
 use Rattle.smil_shown.proofs.PresentMoments.{within_horizon}
 use Rattle.smil_live.proofs.presentation.PresentationOver.advance.Goals as goal
 

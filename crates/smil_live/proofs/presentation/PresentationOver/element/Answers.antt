@@ -4,7 +4,7 @@ use Rattle.smil_model.specs.declared.document.Kind.{Kind}
 use Rattle.smil_model.specs.document.Document.{Document, is_class_kind, node_at}
 use Rattle.smil_model.specs.document.Valid.{IsNumberedTree, kind_of}
 use Rattle.smil_model.specs.shown.Orders.{Presentation}
-use Rattle.smil_live.proofs.Outcomes.{an_element, kind_named, no_element}
+use Rattle.smil_live.proofs.OrderOutcomes.{an_element, kind_named, no_element}
 use Rattle.smil_live.proofs.presentation.PresentationOver.element.Given.{Over}
 use Rattle.smil_live.proofs.presentation.PresentationOver.element.Goals as goal
 use Rattle.smil_live.proofs.presentation.PresentationOver.element.Goals.{After-kind}

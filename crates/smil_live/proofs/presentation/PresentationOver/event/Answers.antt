@@ -9,7 +9,7 @@ use Rattle.smil_grammar.specs.Formats.{formats}
 use Rattle.smil_live.specs.Counts.{most_number, told_where}
 use Rattle.smil_live.specs.Moves.{IsNotHeard}
 use Rattle.smil_live.proofs.CountedOrders.{bounded_at_once, bounded_then}
-use Rattle.smil_live.proofs.Outcomes.{event_is, event_refused, heard_answered, may_event, not_heard}
+use Rattle.smil_live.proofs.OrderOutcomes.{event_is, event_refused, heard_answered, may_event, not_heard}
 use Rattle.smil_live.proofs.presentation.PresentationOver.event.Given.{Over}
 use Rattle.smil_live.proofs.presentation.PresentationOver.event.Goals as goal
 use Rattle.smil_live.proofs.presentation.PresentationOver.event.Goals.{After-hear}

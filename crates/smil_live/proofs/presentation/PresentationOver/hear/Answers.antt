@@ -5,7 +5,7 @@ use Rattle.smil_model.specs.shown.Orders.{IsState, Presentation, changes_between
 use Rattle.smil_cells.specs.CellsState.{WhereTold, with_logged}
 use Rattle.smil_live.specs.Counts.{least_onward, most_onward}
 use Rattle.smil_live.specs.Moves.{told_of}
-use Rattle.smil_live.proofs.Outcomes.{heard_as}
+use Rattle.smil_live.proofs.OrderOutcomes.{heard_as}
 use Rattle.smil_shown.proofs.PresentMoments.{within_horizon}
 use Rattle.smil_live.proofs.presentation.PresentationOver.hear.Goals as goal
 

@@ -7,7 +7,7 @@ use Rattle.smil_cells.specs.CellsState.{WhereTold}
 use Rattle.smil_live.specs.Counts.{least_loading}
 use Rattle.smil_live.specs.Moves.{IsReplayed, IsTooFull, sought_of}
 use Rattle.smil_live.proofs.AgreedCells.{own_replayed, sought_stands}
-use Rattle.smil_live.proofs.Outcomes.{clock_from}
+use Rattle.smil_live.proofs.OrderOutcomes.{clock_from}
 use Rattle.smil_live.proofs.presentation.PresentationOver.made_at.Goals as goal
 
 before : (a b : ℤ) → a <ℤ b → a ≤ℤ b

@@ -14,7 +14,7 @@ use Rattle.smil_grammar.specs.Formats.{formats}
 use Rattle.smil_live.specs.Counts.{most_number, told_where}
 use Rattle.smil_live.specs.Moves.{IsNotHeard}
 use Rattle.smil_live.proofs.CountedOrders.{bounded_at_once, bounded_then}
-use Rattle.smil_live.proofs.Outcomes.{heard_answered, kind_named, may_media, media_is, media_refused, not_heard}
+use Rattle.smil_live.proofs.OrderOutcomes.{heard_answered, kind_named, may_media, media_is, media_refused, not_heard}
 use Rattle.smil_live.proofs.presentation.PresentationOver.media.Given.{Over}
 use Rattle.smil_live.proofs.presentation.PresentationOver.media.Goals as goal
 use Rattle.smil_live.proofs.presentation.PresentationOver.media.Goals.{After-hear, After-kind}

@@ -3,10 +3,10 @@ use Rattle.std.specs.Prelude.{◌⊎◌}
 use Rattle.std.proofs.lemmas.Result.{IfErr-weaker, IfOk-weaker}
 use Rattle.smil_model.specs.declared.order.Refusal.TheVariants as refusal
 use Rattle.smil_model.specs.shown.Orders.{IsState, Presentation, opened}
-use Rattle.smil_tree.proofs.Results.{on_err}
+use Rattle.smil_tree.proofs.ResultClauses.{on_err}
 use Rattle.smil_cells.specs.CellsState.{WhereTold}
 use Rattle.smil_live.specs.Counts.{least_loading, most_loading}
-use Rattle.smil_live.proofs.Opened.{first_state, not_opened, opens}
+use Rattle.smil_live.proofs.OpenedPresentations.{first_state, not_opened, opens}
 use Rattle.smil_live.proofs.presentation.PresentationOver.new.Goals as goal
 
 pub over-requires-clause-state : goal.over-requires-clause-state

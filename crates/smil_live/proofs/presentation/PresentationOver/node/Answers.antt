@@ -1,7 +1,7 @@
 use Rattle.std.proofs.Common.{◌≡◌, ◌∙◌, ap, subst}
 use Rattle.smil_model.specs.document.Valid.{IsNumberedTree}
 use Rattle.smil_model.specs.shown.Orders.{Presentation}
-use Rattle.smil_live.proofs.Outcomes.{found_by, serial_of_named, there}
+use Rattle.smil_live.proofs.OrderOutcomes.{found_by, serial_of_named, there}
 use Rattle.smil_live.proofs.presentation.PresentationOver.node.Goals as goal
 
 pub returns-in-Some-clause-ok : goal.returns-in-Some-clause-ok

@@ -7,7 +7,7 @@ use Rattle.smil_grammar.specs.Formats.{formats}
 use Rattle.smil_live.specs.Moves.{IsNotHeard}
 use Rattle.smil_live.specs.Counts.{most_number, told_where}
 use Rattle.smil_live.proofs.CountedOrders.{bounded_then}
-use Rattle.smil_live.proofs.Outcomes.{heard_answered, not_heard}
+use Rattle.smil_live.proofs.OrderOutcomes.{heard_answered, not_heard}
 use Rattle.smil_live.proofs.presentation.PresentationOver.press.Goals as goal
 
 pub returns-clause-ok : goal.returns-clause-ok

@@ -7,7 +7,7 @@ use Rattle.smil_report.proofs.Growing.{begins_by}
 use Rattle.smil_shown.proofs.AllViews.{of_nodes}
 use Rattle.smil_live.proofs.EditedPresentations.{on_err_always, told_edited}
 use Rattle.smil_live.proofs.RebuiltCells.{moment_kept}
-use Rattle.smil_live.proofs.Standings.{views_settled}
+use Rattle.smil_live.proofs.SettledCells.{views_settled}
 use Rattle.smil_live.proofs.presentation.PresentationOver.put_edited.Goals as goal
 
 pub returns-in_err-put_all_gone-clause-err : goal.returns-in_err-put_all_gone-clause-err

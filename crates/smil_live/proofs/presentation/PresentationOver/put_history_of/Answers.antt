@@ -1,7 +1,7 @@
 use Rattle.std.proofs.Common.{sym, ◌∙◌, ap, ◌++◌, Option}
 use Rattle.smil_model.specs.declared.document.Node.{Node as AnyNode}
 use Rattle.smil_model.specs.shown.Answers.{history_text}
-use Rattle.smil_live.proofs.Outcomes.{found_named}
+use Rattle.smil_live.proofs.OrderOutcomes.{found_named}
 use Rattle.smil_live.proofs.presentation.PresentationOver.put_history_of.Goals as goal
 
 pub put_history_at-requires : goal.put_history_at-requires

@@ -2,7 +2,7 @@ use Rattle.std.proofs.Common.{refl, sym, subst, ◌-◌}
 use Rattle.smil_model.specs.declared.order.Order.TheVariants as order
 use Rattle.smil_model.specs.shown.Answers.{Refuses}
 use Rattle.smil_grammar.specs.Formats.{formats}
-use Rattle.smil_tree.proofs.Results.{on_err}
+use Rattle.smil_tree.proofs.ResultClauses.{on_err}
 use Rattle.smil_live.specs.Sites.{IsMade}
 use Rattle.smil_live.specs.declared.edits.Site.{Site}
 use Rattle.smil_live.proofs.AgreedCells.{IsAnswered, edit_answered}

@@ -1,6 +1,6 @@
 use Rattle.std.proofs.Common.{◌≡◌, ap, inr, ◌∙◌}
 use Rattle.smil_model.specs.shown.Orders.{Presentation, node_removed_from, on_node}
-use Rattle.smil_tree.proofs.Results.{on_err}
+use Rattle.smil_tree.proofs.ResultClauses.{on_err}
 use Rattle.smil_revision.specs.Editing.{at_node}
 use Rattle.smil_live.proofs.EditedPresentations.{edit_err, edit_ok, edit_there, node_there}
 use Rattle.smil_live.proofs.EditOrders.{not_found}

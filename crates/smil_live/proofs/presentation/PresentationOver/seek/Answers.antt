@@ -5,13 +5,13 @@ use Rattle.smil_model.specs.declared.order.Order.TheVariants as order
 use Rattle.smil_model.specs.shown.Answers.{Refuses}
 use Rattle.smil_model.specs.shown.Orders.{IsState, Presentation, changes_between, as_of}
 use Rattle.smil_grammar.specs.Formats.{formats}
-use Rattle.smil_tree.proofs.Results.{on_err}
+use Rattle.smil_tree.proofs.ResultClauses.{on_err}
 use Rattle.smil_cells.specs.CellsState.{WhereTold}
 use Rattle.smil_live.specs.Counts.{least_onward, most_onward}
 use Rattle.smil_live.specs.Moves.{IsTooFull, told_of}
 use Rattle.smil_live.proofs.CountedOrders.{bounded_too_full, seek_bounded}
-use Rattle.smil_live.proofs.Outcomes.{clock_from, not_above, moved_as_sought, not_sought, sought, within_sought}
-use Rattle.smil_live.proofs.Standings.{state_then}
+use Rattle.smil_live.proofs.OrderOutcomes.{clock_from, not_above, moved_as_sought, not_sought, sought, within_sought}
+use Rattle.smil_live.proofs.SettledCells.{state_then}
 use Rattle.smil_shown.proofs.PresentMoments.{within_horizon}
 use Rattle.smil_live.proofs.presentation.PresentationOver.seek.Given.{Over}
 use Rattle.smil_live.proofs.presentation.PresentationOver.seek.Goals as goal

@@ -8,7 +8,7 @@ use Rattle.smil_model.specs.shown.Answers.{Refuses}
 use Rattle.smil_model.specs.shown.Orders.{IsState, Presentation, changes_between}
 use Rattle.smil_report.specs.Tellings.{gone_told}
 use Rattle.smil_grammar.specs.Formats.{formats}
-use Rattle.smil_tree.proofs.Results.{on_err}
+use Rattle.smil_tree.proofs.ResultClauses.{on_err}
 use Rattle.smil_cells.specs.CellsState.{WhereTold}
 use Rattle.smil_live.specs.Moves.{IsReplayed, IsTooFull, sought_of, told_of}
 use Rattle.smil_live.specs.Counted.{IsFree}
@@ -16,7 +16,7 @@ use Rattle.smil_live.specs.Counts.{least_loading, most_number, told_where}
 use Rattle.smil_live.proofs.AgreedCells.{sought_least, sought_most}
 use Rattle.smil_live.proofs.CountedOrders.{bounded_too_full, free_too_full}
 use Rattle.smil_live.proofs.EditedPresentations.{replayed_own}
-use Rattle.smil_live.proofs.Outcomes.{appended_both, not_sought, on_both, sought_anew, within_sought}
+use Rattle.smil_live.proofs.OrderOutcomes.{appended_both, not_sought, on_both, sought_anew, within_sought}
 use Rattle.smil_live.proofs.presentation.PresentationOver.seek_back.Given.{Over}
 use Rattle.smil_live.proofs.presentation.PresentationOver.seek_back.Goals as goal
 use Rattle.smil_live.proofs.presentation.PresentationOver.seek_back.Goals.{After-take_over}

@@ -4,7 +4,7 @@ use Rattle.smil_model.specs.declared.order.Order.TheVariants as order
 use Rattle.smil_model.specs.declared.order.Who.{Who}
 use Rattle.smil_model.specs.shown.Answers.{Refuses}
 use Rattle.smil_grammar.specs.Formats.{formats}
-use Rattle.smil_tree.proofs.Results.{on_err}
+use Rattle.smil_tree.proofs.ResultClauses.{on_err}
 use Rattle.smil_revision.specs.declared.values.Setting.{Setting}
 use Rattle.smil_live.specs.Sites.{IsMade}
 use Rattle.smil_live.specs.declared.edits.Site.{Site}

@@ -2,7 +2,7 @@ use Rattle.std.proofs.Common.{◌≡◌, inl, sym, subst}
 use Rattle.std.proofs.lemmas.Result.{IfErr-weaker}
 use Rattle.smil_model.specs.declared.order.Refusal.TheVariants as refusal
 use Rattle.smil_model.specs.shown.Orders.{IsState}
-use Rattle.smil_tree.proofs.Results.{on_err}
+use Rattle.smil_tree.proofs.ResultClauses.{on_err}
 use Rattle.smil_live.specs.Moves.{IsTooFull, edited_to}
 use Rattle.smil_live.proofs.EditedPresentations.{edited_on_ok, on_ok_always, replayed_own}
 use Rattle.smil_live.proofs.presentation.PresentationOver.take_edited.Goals as goal

@@ -4,7 +4,7 @@ use Rattle.smil_model.specs.declared.order.Refusal.{Refusal}
 use Rattle.smil_model.specs.document.Document.{Document}
 use Rattle.smil_model.specs.shown.Orders.{Presentation, attr_unset_by, on_node}
 use Rattle.smil_grammar.specs.Formats.{formats}
-use Rattle.smil_tree.proofs.Results.{on_err}
+use Rattle.smil_tree.proofs.ResultClauses.{on_err}
 use Rattle.smil_revision.specs.Editing.{at_node}
 use Rattle.smil_revision.specs.declared.values.LineText.{LineText}
 use Rattle.smil_live.proofs.EditedPresentations.{edit_err, edit_ok, edit_there, node_there}

@@ -1,4 +1,4 @@
-use Rattle.smil_live.proofs.Unchanged.{next_told, quiet_told}
+use Rattle.smil_live.proofs.QuietAdvance.{next_told, quiet_told}
 use Rattle.smil_live.proofs.presentation.PresentationOverPlayer.next_due.Goals as goal
 
 pub returns-clause-next : goal.returns-clause-next

@@ -4,15 +4,15 @@ use Rattle.std.specs.Prelude.{OnOk, IfErr}
 use Rattle.std.proofs.lemmas.Int.{to_z-of_z}
 use Rattle.smil_model.specs.shown.Orders.{IsState, Presentation}
 use Rattle.smil_diary.specs.Refusals.{of_book}
-use Rattle.smil_tree.proofs.Results.{on_err}
+use Rattle.smil_tree.proofs.ResultClauses.{on_err}
 use Rattle.smil_cells.specs.CellsState.{with_logged}
 use Rattle.smil_live.specs.Moves.{IsShownAt, IsTooFull, MayMove, changes_by, made, told_of}
 use Rattle.smil_live.specs.declared.moves.Move.{Move}
 use Rattle.smil_live.specs.declared.moves.Move.TheVariants as move
 use Rattle.smil_live.proofs.EditedPresentations.{on_ok_always}
 use Rattle.smil_live.proofs.MadeMoves.{shown_behind, told_behind}
-use Rattle.smil_live.proofs.Replays.{refused_as}
-use Rattle.smil_live.proofs.Standings.{made_is_state, nothing_before}
+use Rattle.smil_live.proofs.ReplayedLogs.{refused_as}
+use Rattle.smil_live.proofs.SettledCells.{made_is_state, nothing_before}
 use Rattle.smil_live.proofs.viewer.Viewer.go_on.Given.{Over}
 use Rattle.smil_live.proofs.viewer.Viewer.go_on.Goals as goal
 use Rattle.smil_live.proofs.viewer.Viewer.go_on.Goals.{In_ok-hear-in-Hear}

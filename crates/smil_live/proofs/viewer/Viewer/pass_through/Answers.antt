@@ -4,12 +4,12 @@ use Rattle.std.proofs.lemmas.Int.{ints, to_z-of_z}
 use Rattle.std.proofs.lemmas.Result.{on_ok_weaker}
 use Rattle.smil_model.specs.declared.times.TheConstants.{HORIZON}
 use Rattle.smil_model.specs.shown.Orders.{changes_between, changes_through, as_of}
-use Rattle.smil_tree.proofs.Results.{on_err}
+use Rattle.smil_tree.proofs.ResultClauses.{on_err}
 use Rattle.smil_report.proofs.Growing.{begins_by, begins_itself}
 use Rattle.smil_live.specs.Moves.{IsShownAt, IsTooFull, told_of}
 use Rattle.smil_live.proofs.CellCounts.{IsCounted, counted_first, counted_last, counted_then}
-use Rattle.smil_live.proofs.Onward.{arrives, comes_nearer, due_from, passes_on, sets_out, too_full_then}
-use Rattle.smil_live.proofs.Replays.{fits}
+use Rattle.smil_live.proofs.MomentsPassed.{arrives, comes_nearer, due_from, passes_on, sets_out, too_full_then}
+use Rattle.smil_live.proofs.ReplayedLogs.{fits}
 use Rattle.smil_live.proofs.viewer.Viewer.pass_through.Given.{Over}
 use Rattle.smil_live.proofs.viewer.Viewer.pass_through.Goals as goal
 use Rattle.smil_live.proofs.viewer.Viewer.pass_through.Goals.{After-settle_once-2, In-Some, In_ok-settle_once}

@@ -3,7 +3,7 @@ use Rattle.std.specs.Prelude.{nat_abs, ◌≤ℤ◌}
 use Rattle.smil_model.specs.declared.times.TheConstants.{HORIZON}
 use Rattle.smil_report.specs.Tellings.{Begins}
 use Rattle.smil_live.proofs.CellCounts.{IsCounted}
-use Rattle.smil_live.proofs.Onward.{IsPassing}
+use Rattle.smil_live.proofs.MomentsPassed.{IsPassing}
 use Rattle.smil_live.proofs.viewer.Viewer.pass_through.Given as goal
 
 abbrev pub invariant-loop-due : goal.invariant-loop-due

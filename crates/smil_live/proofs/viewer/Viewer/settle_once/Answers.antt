@@ -5,13 +5,13 @@ use Rattle.smil_model.specs.happening.Resolution.{diary_of}
 use Rattle.smil_model.specs.shown.Orders.{IsState, Presentation, course_of, as_of}
 use Rattle.smil_diary.specs.declared.fault.BookFault.TheVariants.{DiaryFull}
 use Rattle.smil_diary.specs.Refusals.{of_book}
-use Rattle.smil_tree.proofs.Results.{on_err}
+use Rattle.smil_tree.proofs.ResultClauses.{on_err}
 use Rattle.smil_live.specs.Moves.{IsTooFull}
 use Rattle.smil_live.specs.declared.moves.Move.TheVariants as move
 use Rattle.smil_live.proofs.EditedPresentations.{on_ok_always}
 use Rattle.smil_live.proofs.MadeMoves.{shown_behind, told_behind}
-use Rattle.smil_live.proofs.Replays.{refused_as}
-use Rattle.smil_live.proofs.Standings.{made_is_state}
+use Rattle.smil_live.proofs.ReplayedLogs.{refused_as}
+use Rattle.smil_live.proofs.SettledCells.{made_is_state}
 use Rattle.smil_live.proofs.viewer.Viewer.settle_once.Goals as goal
 
 pub put_touched-requires-clause-state : goal.put_touched-requires-clause-state

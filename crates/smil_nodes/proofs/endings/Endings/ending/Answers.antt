@@ -3,7 +3,7 @@ use Rattle.std.specs.Prelude.{Option, slice_get}
 use Rattle.smil_model.specs.declared.interval.ChildEnd.{ChildEnd}
 use Rattle.smil_nodes.specs.declared.endings.Home.{Home}
 use Rattle.smil_nodes.specs.Endings.{KeptEnds, ending_from, ending_home, ending_in, home_at}
-use Rattle.smil_nodes.proofs.Housing.{child_within, looked_up, row_free}
+use Rattle.smil_nodes.proofs.EndingPlaces.{child_within, looked_up, row_free}
 use Rattle.smil_nodes.proofs.endings.Endings.ending.Goals as goal
 
 pub index-requires : goal.index-requires

@@ -3,7 +3,7 @@ use Rattle.std.specs.Prelude.{slice_index_or, []}
 use Rattle.std.proofs.lemmas.Int.{to_z-of_z}
 use Rattle.smil_model.specs.interval.Durations.{container_duration}
 use Rattle.smil_nodes.specs.Endings.{KeptEnds}
-use Rattle.smil_nodes.proofs.Housing.{row_free}
+use Rattle.smil_nodes.proofs.EndingPlaces.{row_free}
 use Rattle.smil_nodes.proofs.endings.Endings.implicit.Goals as goal
 
 pub returns : goal.returns

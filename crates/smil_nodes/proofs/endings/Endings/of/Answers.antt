@@ -1,4 +1,4 @@
-use Rattle.smil_nodes.proofs.Housing.{housed}
+use Rattle.smil_nodes.proofs.EndingPlaces.{housed}
 use Rattle.smil_nodes.proofs.endings.Endings.of.Goals as goal
 
 pub invariant_of-result : goal.invariant_of-result

@@ -3,8 +3,8 @@ use Rattle.std.specs.Prelude.{Option, None}
 use Rattle.smil_model.specs.declared.interval.ChildEnd.{ChildEnd}
 use Rattle.smil_nodes.specs.declared.endings.Home.{Home}
 use Rattle.smil_nodes.specs.Endings.{KeptEnds, home_at, put_ending, put_home}
-use Rattle.smil_endsync.proofs.Naming.{set_length}
-use Rattle.smil_nodes.proofs.Housing.{among_set, child_within, housed_set, looked_up}
+use Rattle.smil_endsync.proofs.NamedChild.{set_length}
+use Rattle.smil_nodes.proofs.EndingPlaces.{among_set, child_within, housed_set, looked_up}
 use Rattle.smil_nodes.proofs.endings.Endings.put.Goals as goal
 
 pub returns-in_default : goal.returns-in_default

@@ -5,13 +5,13 @@ use Rattle.smil_model.specs.declared.interval.Interval.{Interval}
 use Rattle.smil_model.specs.document.Document.{elements}
 use Rattle.smil_past.specs.Past.{history_of}
 use Rattle.smil_rounds.specs.Current.{interval_in}
-use Rattle.smil_rounds.proofs.Paired.{interval_at}
-use Rattle.smil_rounds.proofs.Taking.{IsFound, found, has_row, own_interval, taken_by}
+use Rattle.smil_rounds.proofs.RowsBesideElements.{interval_at}
+use Rattle.smil_rounds.proofs.RowEvaluated.{IsFound, found, has_row, own_interval, taken_by}
 use Rattle.smil_element.specs.Endings.{ending_by}
 use Rattle.smil_nodes.specs.Endings.{put_ending}
-use Rattle.smil_nodes.proofs.Fixed.{first_serial}
-use Rattle.smil_nodes.proofs.Housing.{rows_count}
-use Rattle.smil_nodes.proofs.Undone.{row_set}
+use Rattle.smil_nodes.proofs.RowAtElement.{first_serial}
+use Rattle.smil_nodes.proofs.EndingPlaces.{rows_count}
+use Rattle.smil_nodes.proofs.RowsPutBack.{row_set}
 use Rattle.smil_nodes.proofs.live.LiveTable.evaluate.Given.{Over}
 use Rattle.smil_nodes.proofs.live.LiveTable.evaluate.Goals as goal
 use Rattle.smil_nodes.proofs.live.LiveTable.evaluate.Goals.{After-unwrap-index, In_ok-replace}

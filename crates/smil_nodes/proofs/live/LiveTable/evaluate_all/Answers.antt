@@ -2,21 +2,21 @@ use Rattle.std.proofs.Common.{◌≡◌, ◌∙◌, subst, refl, List, ℕ, ◌+
 use Rattle.std.proofs.lemmas.Int.{to_z-of_z}
 use Rattle.smil_model.specs.declared.document.Node.{Node}
 use Rattle.smil_model.specs.document.Document.{elements}
-use Rattle.smil_laws.proofs.Numbered.{ordered}
+use Rattle.smil_laws.proofs.NumberedTrees.{ordered}
 use Rattle.smil_graph.specs.Graph.{IsGraphOrder}
 use Rattle.smil_past.specs.Past.{history_of}
 use Rattle.smil_rounds.specs.Round.{AreRowsEvaluated}
-use Rattle.smil_rounds.proofs.Taking.{take_next}
-use Rattle.smil_rounds.proofs.Current.{none_taken, order_length, ordered_element}
-use Rattle.smil_nodes.proofs.Finishing.{taken_current}
+use Rattle.smil_rounds.proofs.RowEvaluated.{take_next}
+use Rattle.smil_rounds.proofs.CurrentRowsExact.{none_taken, order_length, ordered_element}
+use Rattle.smil_nodes.proofs.AgendaEmpty.{taken_current}
 use Rattle.std.proofs.Common.{get_or, ap, sym}
 use Rattle.smil_model.specs.document.Document.{node_at}
-use Rattle.smil_laws.proofs.Rounds.{find-serial}
+use Rattle.smil_laws.proofs.RoundsRest.{find-serial}
 use Rattle.smil_rounds.specs.Current.{interval_in}
 use Rattle.smil_nodes.specs.Work.{IsBelow}
-use Rattle.smil_nodes.proofs.Family.{child_below}
-use Rattle.smil_nodes.proofs.Knowing.{all_below, below_next, known_ended, knows, none_below}
-use Rattle.smil_nodes.proofs.Working.{others_stay}
+use Rattle.smil_nodes.proofs.TimeChildPlaces.{child_below}
+use Rattle.smil_nodes.proofs.KnownEnds.{all_below, below_next, known_ended, knows, none_below}
+use Rattle.smil_nodes.proofs.AgendaStep.{others_stay}
 use Rattle.smil_nodes.proofs.live.LiveTable.evaluate_all.Goals as goal
 
 pub evaluate-requires-clause-element : goal.evaluate-requires-clause-element

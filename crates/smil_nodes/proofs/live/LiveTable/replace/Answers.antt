@@ -5,8 +5,8 @@ use Rattle.smil_nodes.specs.Endings.{put_ending}
 use Rattle.smil_nodes.specs.Marked.{back_from}
 use Rattle.smil_nodes.specs.Schedule.{row_put}
 use Rattle.smil_nodes.specs.Undo.{Kept, all_back, note_of}
-use Rattle.smil_nodes.proofs.Among.{put_back}
-use Rattle.smil_nodes.proofs.Undone.{back_kept, back_noted, put_at, row_same, there}
+use Rattle.smil_nodes.proofs.ChildEndsPut.{put_back}
+use Rattle.smil_nodes.proofs.RowsPutBack.{back_kept, back_noted, put_at, row_same, there}
 use Rattle.smil_nodes.proofs.live.LiveTable.replace.Goals as goal
 use Rattle.smil_nodes.proofs.live.LiveTable.replace.Goals.{then-self+in_ok-note, else-self}
 

@@ -1,7 +1,7 @@
 use Rattle.std.proofs.Common.{◌≡◌, ◌∙◌, ap, sym, subst, Bool}
 use Rattle.smil_nodes.specs.Marked.{IsMarked, IsUpToDate, back_from}
 use Rattle.smil_nodes.specs.Undo.{Kept, all_back}
-use Rattle.smil_nodes.proofs.Undone.{back_next}
+use Rattle.smil_nodes.proofs.RowsPutBack.{back_next}
 use Rattle.smil_nodes.proofs.live.LiveTableTable.back.Goals as goal
 
 pub loop-noted-preserved : goal.loop-noted-preserved

@@ -1,5 +1,5 @@
 use Rattle.std.proofs.Common.{◌∙◌}
-use Rattle.smil_nodes.proofs.Fixed.{current_intervals}
+use Rattle.smil_nodes.proofs.RowAtElement.{current_intervals}
 use Rattle.smil_nodes.proofs.live.LiveTableTable.interval.Goals as goal
 
 pub returns : goal.returns

@@ -2,14 +2,14 @@ use Rattle.std.proofs.Common.{◌∙◌, ◌+◌, ◌≤◌, ap, length, arith}
 use Rattle.smil_model.specs.document.Document.{Document, elements, serials}
 use Rattle.smil_model.specs.interval.Current.{current_interval}
 use Rattle.smil_past.specs.Past.{history_of}
-use Rattle.smil_rounds.proofs.Empty.{empty_serials}
-use Rattle.smil_rounds.proofs.Paired.{serials_in}
-use Rattle.smil_nodes.proofs.Finishing.{any_least}
+use Rattle.smil_rounds.proofs.RowsEmpty.{empty_serials}
+use Rattle.smil_rounds.proofs.RowsBesideElements.{serials_in}
+use Rattle.smil_nodes.proofs.AgendaEmpty.{any_least}
 use Rattle.std.proofs.Common.{◌≡◌, List, map, subst, sym}
 use Rattle.smil_model.specs.declared.document.Node.{Node}
 use Rattle.smil_rounds.specs.Current.{interval_in}
 use Rattle.smil_nodes.specs.Endings.{AreHomes, named_ends}
-use Rattle.smil_nodes.proofs.Knowing.{none_known}
+use Rattle.smil_nodes.proofs.KnownEnds.{none_known}
 use Rattle.smil_nodes.proofs.live.LiveTableTable.of.Goals as goal
 
 pub evaluate_all-requires-clause-of_elements : goal.evaluate_all-requires-clause-of_elements

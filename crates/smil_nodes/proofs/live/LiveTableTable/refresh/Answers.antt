@@ -6,27 +6,27 @@ use Rattle.std.proofs.lemmas.Int.{to_z-of_z}
 use Rattle.smil_model.specs.document.Closure.{has}
 use Rattle.smil_model.specs.document.Document.{elements, node_at}
 use Rattle.smil_model.specs.interval.Current.{current_interval}
-use Rattle.smil_laws.proofs.Numbered.{ordered}
-use Rattle.smil_laws.proofs.Rounds.{find-serial}
+use Rattle.smil_laws.proofs.NumberedTrees.{ordered}
+use Rattle.smil_laws.proofs.RoundsRest.{find-serial}
 use Rattle.smil_graph.specs.Graph.{IsGraphOrder}
 use Rattle.smil_past.specs.Past.{front, history_of}
-use Rattle.smil_element.proofs.Latest.{present_fits}
+use Rattle.smil_element.proofs.PresentMoment.{present_fits}
 use Rattle.smil_rounds.specs.Current.{interval_in}
-use Rattle.smil_rounds.proofs.Current.{ordered_element}
-use Rattle.smil_rounds.proofs.Taking.{unchanged_both, unchanged_none}
+use Rattle.smil_rounds.proofs.CurrentRowsExact.{ordered_element}
+use Rattle.smil_rounds.proofs.RowEvaluated.{unchanged_both, unchanged_none}
 use Rattle.smil_nodes.specs.Endings.{AreKnown}
 use Rattle.smil_nodes.specs.Marked.{GoesBack}
 use Rattle.smil_cells.specs.Evaluated.{AreChanged}
 use Rattle.smil_nodes.specs.Work.{AreSettled, HasSame, IsCounted, IsUnlisted, gap_from, is_later_reader}
-use Rattle.smil_nodes.proofs.Gap.{gap_falls}
-use Rattle.smil_nodes.proofs.Listing.{taken_out}
-use Rattle.smil_nodes.proofs.Fixed.{current_intervals}
-use Rattle.smil_nodes.proofs.Starting.{first_noted, first_reached, settled_first}
-use Rattle.smil_nodes.proofs.Working.{left_out, others_stay, settled_same, settled_changed}
-use Rattle.smil_nodes.proofs.Tally.{none_counted, one_counted, rank_passed, told_more, told_still}
-use Rattle.smil_nodes.proofs.Finishing.{counted_least, counted_most, evaluated_due, settled_current, told_differ, told_pushed, told_same, untold_stay}
-use Rattle.smil_nodes.proofs.Refreshing.{differ_in, is_order, later_told, noted_told, noted_within, rest_of}
-use Rattle.smil_nodes.proofs.Knowing.{all_unlisted, children_unlisted, known_ended, known_first, knows, unlisted_next}
+use Rattle.smil_nodes.proofs.RankGap.{gap_falls}
+use Rattle.smil_nodes.proofs.RisingRanks.{taken_out}
+use Rattle.smil_nodes.proofs.RowAtElement.{current_intervals}
+use Rattle.smil_nodes.proofs.RowsBefore.{first_noted, first_reached, settled_first}
+use Rattle.smil_nodes.proofs.AgendaStep.{left_out, others_stay, settled_same, settled_changed}
+use Rattle.smil_nodes.proofs.EvaluatedOnce.{none_counted, one_counted, rank_passed, told_more, told_still}
+use Rattle.smil_nodes.proofs.AgendaEmpty.{counted_least, counted_most, evaluated_due, settled_current, told_differ, told_pushed, told_same, untold_stay}
+use Rattle.smil_nodes.proofs.RefreshCalls.{differ_in, is_order, later_told, noted_told, noted_within, rest_of}
+use Rattle.smil_nodes.proofs.KnownEnds.{all_unlisted, children_unlisted, known_ended, known_first, knows, unlisted_next}
 use Rattle.smil_nodes.proofs.live.LiveTableTable.refresh.Given.{Over}
 use Rattle.smil_nodes.proofs.live.LiveTableTable.refresh.Goals as goal
 use Rattle.smil_nodes.proofs.live.LiveTableTable.refresh.Goals.{In_ok-evaluate, In_ok-put_readers}

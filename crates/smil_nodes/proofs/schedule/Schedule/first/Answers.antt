@@ -3,7 +3,7 @@ use Rattle.std.specs.Prelude.{option_map}
 use Rattle.smil_element.specs.Parts.{coming_meant}
 use Rattle.smil_rounds.specs.declared.current_rows.CurrentRow.{CurrentRow}
 use Rattle.smil_rounds.specs.Current.{AreCurrent}
-use Rattle.smil_nodes.proofs.Slotted.{first_comes, nothing_comes}
+use Rattle.smil_nodes.proofs.RowSlots.{first_comes, nothing_comes}
 use Rattle.smil_nodes.proofs.schedule.Schedule.first.Goals as goal
 
 pub returns-in_err-least : goal.returns-in_err-least

@@ -3,11 +3,11 @@ use Rattle.std.specs.Prelude.{nat_eq}
 use Rattle.std.specs.List.{IsDistinct}
 use Rattle.smil_model.specs.document.Document.{elements}
 use Rattle.smil_rounds.specs.Rows.{AreNear, empty_row}
-use Rattle.smil_rounds.proofs.Empty.{empty_near, empty_serials}
-use Rattle.smil_rounds.proofs.Paired.{serials_in}
+use Rattle.smil_rounds.proofs.RowsEmpty.{empty_near, empty_serials}
+use Rattle.smil_rounds.proofs.RowsBesideElements.{serials_in}
 use Rattle.smil_nodes.specs.Schedule.{slots_of}
-use Rattle.smil_cells.proofs.Distinct.{elements_distinct}
-use Rattle.smil_nodes.proofs.Slotted.{rows_few, slots_empty}
+use Rattle.smil_cells.proofs.DistinctElements.{elements_distinct}
+use Rattle.smil_nodes.proofs.RowSlots.{rows_few, slots_empty}
 use Rattle.smil_nodes.proofs.schedule.Schedule.of.Goals as goal
 
 pub new-requires : goal.new-requires

@@ -4,13 +4,13 @@ use Rattle.std.specs.Prelude.{nat_eq, slice_get, Some}
 use Rattle.std.specs.List.{IsDistinct}
 use Rattle.smil_rounds.specs.declared.current_rows.CurrentRow.{CurrentRow}
 use Rattle.smil_rounds.specs.Rows.{AreNear}
-use Rattle.smil_rounds.proofs.Paired.{serials_in}
-use Rattle.smil_rounds.proofs.Rows.{IsFirst, near_set, set_serials}
-use Rattle.smil_rounds.proofs.Taking.{placed}
+use Rattle.smil_rounds.proofs.RowsBesideElements.{serials_in}
+use Rattle.smil_rounds.proofs.RowPut.{IsFirst, near_set, set_serials}
+use Rattle.smil_rounds.proofs.RowEvaluated.{placed}
 use Rattle.smil_nodes.specs.Schedule.{row_put, slot_of, slots_of}
-use Rattle.smil_nodes.proofs.Fixed.{first_apart}
-use Rattle.smil_nodes.proofs.Slotted.{slots_length, slots_set}
-use Rattle.smil_nodes.proofs.Undone.{row_set}
+use Rattle.smil_nodes.proofs.RowAtElement.{first_apart}
+use Rattle.smil_nodes.proofs.RowSlots.{slots_length, slots_set}
+use Rattle.smil_nodes.proofs.RowsPutBack.{row_set}
 use Rattle.smil_nodes.proofs.schedule.Schedule.put.Goals as goal
 use Rattle.smil_nodes.proofs.schedule.Schedule.put.Goals.{After-row}
 

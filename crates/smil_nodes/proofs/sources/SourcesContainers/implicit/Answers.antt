@@ -5,9 +5,9 @@ use Rattle.std.proofs.lemmas.Option.{same_Some}
 use Rattle.smil_model.specs.document.Document.{Document, elements, node_at}
 use Rattle.smil_model.specs.document.Defaults.{endsync_of}
 use Rattle.smil_model.specs.interval.Durations.{container_duration}
-use Rattle.smil_element.proofs.Known.{kind_is, known_node}
-use Rattle.smil_element.proofs.Told.{tree_attrs, tree_node}
-use Rattle.smil_rounds.proofs.Taking.{IsFound, found}
+use Rattle.smil_element.proofs.KnownElements.{kind_is, known_node}
+use Rattle.smil_element.proofs.ElementReadings.{tree_attrs, tree_node}
+use Rattle.smil_rounds.proofs.RowEvaluated.{IsFound, found}
 use Rattle.smil_nodes.proofs.sources.SourcesContainers.implicit.Goals as goal
 
 pub implicit-requires : goal.implicit-requires

@@ -4,9 +4,9 @@ use Rattle.smil_model.specs.declared.limits.TheConstants.{LINE_BYTES}
 use Rattle.smil_model.specs.document.Limits.{limits}
 use Rattle.smil_grammar.specs.Outlines.{Outline, with_line, with_node, shape_in, shape_within}
 use Rattle.smil_outline.specs.Branches.{is_known, IsOfBuilder, IsPlaced}
-use Rattle.smil_outline.proofs.Alike.{kept_with, kept_put, where_ok}
-use Rattle.smil_outline.proofs.Parts.{as_node}
-use Rattle.smil_outline.proofs.Validity.{serial_is_new}
+use Rattle.smil_outline.proofs.ChildrenAlike.{kept_with, kept_put, where_ok}
+use Rattle.smil_outline.proofs.LineParts.{as_node}
+use Rattle.smil_outline.proofs.OutlineValid.{serial_is_new}
 use Rattle.smil_outline.proofs.builder.Builder.add.Goals as goal
 
 pub invariant_of-self-2 : goal.invariant_of-self-2

@@ -7,7 +7,7 @@ use Rattle.smil_model.specs.document.Values.{is_seq_parent}
 use Rattle.smil_grammar.specs.Gives.{GivesNode, GivesReading}
 use Rattle.smil_grammar.specs.Nodes.{attrs_from}
 use Rattle.smil_grammar.specs.Outlines.{in_line, attrs_in}
-use Rattle.smil_outline.proofs.Placed.{attrs_refused, fault_is_near}
+use Rattle.smil_outline.proofs.AttributesPlaced.{attrs_refused, fault_is_near}
 use Rattle.smil_outline.proofs.builder.Builder.attrs_below.Goals as goal
 
 pub refused-requires-clause-near : goal.refused-requires-clause-near

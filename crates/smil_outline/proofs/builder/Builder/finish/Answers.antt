@@ -1,6 +1,6 @@
 use Rattle.std.proofs.Common.{◌≡◌, ℕ, ◌<◌, ◌+◌, length, ap, sym, ◌∙◌, arith}
 use Rattle.std.specs.Prelude.{unwrap_or, Option}
-use Rattle.smil_outline.proofs.Validity.{read_is_valid}
+use Rattle.smil_outline.proofs.OutlineValid.{read_is_valid}
 use Rattle.smil_outline.proofs.builder.Builder.finish.Goals as goal
 use Rattle.smil_outline.proofs.builder.Builder.finish.Goals.{in-Some, in-None}
 

@@ -6,7 +6,7 @@ use Rattle.smil_model.specs.declared.order.Refusal.{Refusal}
 use Rattle.smil_attrs.specs.Filled.{filled}
 use Rattle.smil_outline.specs.Branches.{serial_of}
 use Rattle.smil_outline.specs.Steps.{node_with}
-use Rattle.smil_outline.proofs.Parts.{kind_stops, attrs_stop, node_read, stands_unmixed, where_not_refused, filled_refused}
+use Rattle.smil_outline.proofs.LineParts.{kind_stops, attrs_stop, node_read, stands_unmixed, where_not_refused, filled_refused}
 use Rattle.smil_outline.proofs.builder.Builder.line.Goals as goal
 
 pub returns-in_err-kind-clause-reading : goal.returns-in_err-kind-clause-reading

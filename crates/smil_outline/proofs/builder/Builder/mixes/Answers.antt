@@ -1,7 +1,7 @@
 use Rattle.std.proofs.Common.{ap, ◌∙◌, not, arith}
 use Rattle.smil_model.specs.document.Document.{is_class_kind}
 use mathlib.Core.Bool.{beq}
-use Rattle.smil_outline.proofs.Alike.{mixed_in, unlike}
+use Rattle.smil_outline.proofs.ChildrenAlike.{mixed_in, unlike}
 use Rattle.smil_outline.proofs.builder.Builder.mixes.Goals as goal
 
 pub returns-in-Some : goal.returns-in-Some

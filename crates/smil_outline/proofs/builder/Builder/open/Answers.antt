@@ -2,8 +2,8 @@ use Rattle.std.proofs.Common.{◌≡◌, true, false, ltb, length, ap, sym, ◌�
 use Rattle.std.proofs.lemmas.Bool.{le-ltb}
 use Rattle.smil_model.specs.declared.limits.TheConstants.{LINE_BYTES}
 use Rattle.smil_grammar.specs.Outlines.{Outline, with_header, opens_saved}
-use Rattle.smil_outline.proofs.Alike.{kept_headed}
-use Rattle.smil_outline.proofs.Parts.{as_header}
+use Rattle.smil_outline.proofs.ChildrenAlike.{kept_headed}
+use Rattle.smil_outline.proofs.LineParts.{as_header}
 use Rattle.smil_outline.proofs.builder.Builder.open.Goals as goal
 
 pub invariant_of-self : goal.invariant_of-self

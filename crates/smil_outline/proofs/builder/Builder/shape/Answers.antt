@@ -2,7 +2,7 @@ use Rattle.std.proofs.Common.{ℕ, Option, sym, subst}
 use Rattle.std.specs.Prelude.{IfSome}
 use Rattle.smil_grammar.specs.Nodes.{Shape}
 use Rattle.smil_outline.specs.Steps.{IsInLine}
-use Rattle.smil_outline.proofs.Columns.{plain_in_line, saved_in_line}
+use Rattle.smil_outline.proofs.FaultColumns.{plain_in_line, saved_in_line}
 use Rattle.smil_outline.proofs.builder.Builder.shape.Goals as goal
 
 pub returns-in-Some-clause-near : goal.returns-in-Some-clause-near

@@ -1,6 +1,6 @@
 use Rattle.std.proofs.Common.{ap, ◌∙◌}
 use Rattle.smil_outline.specs.Branches.{is_among_ids}
-use Rattle.smil_outline.proofs.Found.{found}
+use Rattle.smil_outline.proofs.IdSet.{found}
 use Rattle.smil_outline.proofs.ids.Ids.has.Goals as goal
 
 pub returns : goal.returns

@@ -1,7 +1,7 @@
 use Rattle.std.proofs.Common.{ap, ◌∙◌, ◌||◌}
 use Rattle.std.specs.Str.{bytes_eq}
 use Rattle.smil_outline.specs.Branches.{is_among_ids}
-use Rattle.smil_outline.proofs.Found.{inserted}
+use Rattle.smil_outline.proofs.IdSet.{inserted}
 use Rattle.smil_outline.proofs.ids.Ids.put.Goals as goal
 
 pub returns-clause-ok : goal.returns-clause-ok

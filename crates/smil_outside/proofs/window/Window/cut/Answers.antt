@@ -1,5 +1,5 @@
 use Rattle.std.proofs.Common.{◌≤◌, ◌-◌, ◌≡◌, length, ap, sym, ◌∙◌, arith}
-use Rattle.smil_outside.proofs.Ranges.{range_front, range_rest, length-slice_range}
+use Rattle.smil_outside.proofs.ListRanges.{range_front, range_rest, length-slice_range}
 use Rattle.smil_outside.proofs.window.Window.cut.Goals as goal
 
 pub returns : goal.returns

@@ -2,7 +2,7 @@ use Rattle.std.proofs.Common.{◌≡◌, ◌+◌, ◌-◌, ◌++◌, ℕ, ◌∙
 use Rattle.std.specs.Prelude.{slice_range}
 use Rattle.std.proofs.lemmas.List.{length-take, length-append}
 use Rattle.std.proofs.lemmas.Result.{err_from_is_err_and}
-use Rattle.smil_outside.proofs.Ranges.{moved_and_filled, moved_and_read, length-slice_range}
+use Rattle.smil_outside.proofs.ListRanges.{moved_and_filled, moved_and_read, length-slice_range}
 use Rattle.smil_outside.proofs.window.Window.fill.Goals as goal
 
 pub returns-in_err-n-clause-err : goal.returns-in_err-n-clause-err

@@ -1,4 +1,4 @@
-use Rattle.smil_outside.proofs.Bytes.{none_anywhere, first_feed}
+use Rattle.smil_outside.proofs.FirstLineFeed.{none_anywhere, first_feed}
 use Rattle.smil_outside.proofs.window.Window.line_feed.Goals as goal
 
 pub returns-in_err-at : goal.returns-in_err-at

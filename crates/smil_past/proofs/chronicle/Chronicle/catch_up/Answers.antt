@@ -2,8 +2,8 @@ use Rattle.std.proofs.Common.{◌≡◌, ◌≤◌, ◌∙◌, refl, sym, ap, Li
 use Rattle.std.specs.Prelude.{◌+◌}
 use Rattle.std.proofs.lemmas.List.{length_push}
 use Rattle.smil_model.specs.declared.diary.Entry.{Entry}
-use Rattle.smil_stretch.proofs.Idle.{no_entry}
-use Rattle.smil_past.proofs.Fronts.{all_reached, entry_at, rest}
+use Rattle.smil_stretch.proofs.IdleClocks.{no_entry}
+use Rattle.smil_past.proofs.FirstEntries.{all_reached, entry_at, rest}
 use Rattle.smil_past.proofs.Catching.{caught_up, lags_next, next_follows}
 use Rattle.smil_past.proofs.chronicle.Chronicle.catch_up.Goals as goal
 

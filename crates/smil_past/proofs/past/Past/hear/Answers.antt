@@ -5,7 +5,7 @@ use Rattle.smil_laws.specs.Cut.{NamesBelow}
 use Rattle.smil_past.specs.Past.{MarkedHistory}
 use Rattle.smil_past.specs.Chronicle.{BacksUp, Tells}
 use Rattle.smil_past.specs.Kept.{AreKept}
-use Rattle.smil_past.proofs.Grown.{cut_heard, heard, unheard}
+use Rattle.smil_past.proofs.LogGrown.{cut_heard, heard, unheard}
 use Rattle.smil_past.proofs.Marks.{backs_heard, backs_unheard}
 use Rattle.smil_past.proofs.KeptFronts.{kept_heard, kept_unheard}
 use Rattle.smil_past.proofs.past.Past.hear.Goals as goal

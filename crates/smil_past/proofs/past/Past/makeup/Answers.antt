@@ -1,9 +1,9 @@
 use Rattle.std.proofs.Common.{◌≡◌, ◌∙◌, sym, ap, Some}
 use Rattle.std.specs.Prelude.{is_some}
 use Rattle.std.specs.Option.{option_copied}
-use Rattle.smil_instances.proofs.Targets.{element_of}
+use Rattle.smil_instances.proofs.IdTargets.{element_of}
 use Rattle.smil_past.specs.Makeups.{makeup_of}
-use Rattle.smil_past.proofs.Lent.{some_lent}
+use Rattle.smil_past.proofs.ReferenceLent.{some_lent}
 use Rattle.smil_past.proofs.past.Past.makeup.Goals as goal
 
 pub unwrap-requires : goal.unwrap-requires

@@ -3,9 +3,9 @@ use Rattle.std.proofs.lemmas.List.{take_all}
 use Rattle.std.proofs.lemmas.Option.{slice_get-get_or}
 use Rattle.smil_model.specs.declared.diary.Entry.{Entry}
 use Rattle.smil_laws.proofs.Lists.{take-more_at}
-use Rattle.smil_stretch.proofs.Idle.{no_entry}
+use Rattle.smil_stretch.proofs.IdleClocks.{no_entry}
 use Rattle.smil_past.specs.Past.{MarkedHistory, MayFollow, with_diary}
-use Rattle.smil_past.proofs.Fronts.{follows_at, possible_before}
+use Rattle.smil_past.proofs.FirstEntries.{follows_at, possible_before}
 use Rattle.smil_past.proofs.past.Past.of.Goals as goal
 
 pub over-requires-clause-possible : goal.over-requires-clause-possible

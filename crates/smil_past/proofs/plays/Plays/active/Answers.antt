@@ -1,7 +1,7 @@
 use Rattle.std.proofs.Common.{◌∙◌, ap}
 use Rattle.smil_past.specs.Rows.{row_of}
-use Rattle.smil_past.proofs.Active.{active_none, active_some}
-use Rattle.smil_past.proofs.Taken.{row_is}
+use Rattle.smil_past.proofs.KeptActivity.{active_none, active_some}
+use Rattle.smil_past.proofs.ElementsAfterEntry.{row_is}
 use Rattle.smil_past.proofs.plays.Plays.active.Goals as goal
 
 pub returns-in-Some : goal.returns-in-Some

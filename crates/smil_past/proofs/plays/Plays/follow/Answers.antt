@@ -1,5 +1,5 @@
-use Rattle.smil_past.proofs.Before.{clocks_at, moment_at}
-use Rattle.smil_past.proofs.Taken.{taken}
+use Rattle.smil_past.proofs.EntryBefore.{clocks_at, moment_at}
+use Rattle.smil_past.proofs.ElementsAfterEntry.{taken}
 use Rattle.smil_past.proofs.plays.Plays.follow.Goals as goal
 
 pub take_own-requires-clause-moment : goal.take_own-requires-clause-moment

@@ -2,7 +2,7 @@ use Rattle.std.proofs.Common.{◌≡◌, sym, ◌∙◌, ap, subst, ℕ, List, m
 use Rattle.std.specs.FinMap.{get}
 use Rattle.smil_instances.specs.Spread.{IsIndex}
 use Rattle.smil_past.specs.Rows.{idle_row, keys_of}
-use Rattle.smil_past.proofs.Idle.{all_idle, keys_idle}
+use Rattle.smil_past.proofs.IdleRows.{all_idle, keys_idle}
 use Rattle.smil_past.proofs.plays.Plays.new.Goals as goal
 
 pub invariant_of-result : goal.invariant_of-result

@@ -1,6 +1,6 @@
 use Rattle.std.proofs.Common.{◌∙◌, ap}
 use Rattle.smil_past.specs.Rows.{row_of}
-use Rattle.smil_past.proofs.Taken.{row_is}
+use Rattle.smil_past.proofs.ElementsAfterEntry.{row_is}
 use Rattle.smil_past.proofs.plays.Plays.of.Goals as goal
 
 pub returns : goal.returns

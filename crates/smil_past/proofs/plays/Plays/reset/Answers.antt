@@ -3,7 +3,7 @@ use Rattle.std.specs.FinMap.{get}
 use Rattle.std.proofs.lemmas.List.{take_at}
 use Rattle.smil_instances.specs.Spread.{IsIndex}
 use Rattle.smil_past.specs.Rows.{keys_of, reset_row}
-use Rattle.smil_past.proofs.Idle.{all_reset, keys_reset}
+use Rattle.smil_past.proofs.IdleRows.{all_reset, keys_reset}
 use Rattle.smil_past.proofs.plays.Plays.reset.Goals as goal
 
 pub invariant_of-self : goal.invariant_of-self

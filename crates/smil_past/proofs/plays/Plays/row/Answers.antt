@@ -2,7 +2,7 @@ use Rattle.std.proofs.Common.{◌<◌, sym, ◌∙◌, ap, length, Some, get_or,
 use Rattle.std.specs.FinMap.{get}
 use Rattle.std.specs.Option.{option_copied}
 use Rattle.smil_past.specs.Rows.{row_of}
-use Rattle.smil_past.proofs.Rows.{Row, first_below, first_indexed, none_indexed, row_first}
+use Rattle.smil_past.proofs.PlayRows.{Row, first_below, first_indexed, none_indexed, row_first}
 use Rattle.smil_past.proofs.plays.Plays.row.Goals as goal
 
 pub returns-in_err-place : goal.returns-in_err-place

@@ -2,7 +2,7 @@ use Rattle.std.proofs.Common.{refl, sym, subst, true, false}
 use Rattle.smil_model.specs.declared.diary.Step.{Step}
 use Rattle.smil_model.specs.declared.diary.Step.TheVariants.{Began, Repeated, Ended, Cut}
 use Rattle.smil_past.specs.Rows.{AreChildrenTaken}
-use Rattle.smil_past.proofs.Children.{children_taken}
+use Rattle.smil_past.proofs.TimeChildRows.{children_taken}
 use Rattle.smil_past.proofs.plays.Plays.take_children.Goals as goal
 
 pub returns-in-Began : goal.returns-in-Began

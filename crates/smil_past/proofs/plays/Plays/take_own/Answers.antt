@@ -4,7 +4,7 @@ use Rattle.smil_model.specs.reach.Reach.{subject_of}
 use Rattle.smil_past.specs.Followed.{own_after}
 use Rattle.smil_past.specs.Rows.{IsOwnTaken, keys_of, row_of}
 use Rattle.smil_past.proofs.OwnRows.{own_put, own_unknown}
-use Rattle.smil_past.proofs.Rows.{Row, first_below, first_indexed, first_key, keys_indexed, none_indexed, put_set, row_first}
+use Rattle.smil_past.proofs.PlayRows.{Row, first_below, first_indexed, first_key, keys_indexed, none_indexed, put_set, row_first}
 use Rattle.smil_past.proofs.plays.Plays.take_own.Goals as goal
 
 pub returns-in_default-get : goal.returns-in_default-get

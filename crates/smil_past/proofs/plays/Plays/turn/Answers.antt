@@ -3,8 +3,8 @@ use Rattle.std.specs.Prelude.{not}
 use Rattle.std.specs.FinMap.{get}
 use Rattle.smil_past.specs.Followed.{child_after}
 use Rattle.smil_past.specs.Rows.{IsAfterParent, keys_of, row_of}
-use Rattle.smil_past.proofs.Rows.{Row, first_below, first_indexed, first_key, keys_indexed, none_indexed, put_set, row_first}
-use Rattle.smil_past.proofs.Turned.{turn_none, turn_put}
+use Rattle.smil_past.proofs.PlayRows.{Row, first_below, first_indexed, first_key, keys_indexed, none_indexed, put_set, row_first}
+use Rattle.smil_past.proofs.ChildRowsTurned.{turn_none, turn_put}
 use Rattle.smil_past.proofs.plays.Plays.turn.Goals as goal
 
 pub returns-in_default : goal.returns-in_default

@@ -3,9 +3,9 @@ use Rattle.std.proofs.lemmas.List.{length-map, take_all}
 use Rattle.std.proofs.lemmas.Option.{slice_get_within}
 use Rattle.smil_model.specs.declared.document.Node.{Node}
 use Rattle.smil_model.specs.document.Document.{time_children}
-use Rattle.smil_instances.proofs.Begun.{at_place}
+use Rattle.smil_instances.proofs.EmptyRows.{at_place}
 use Rattle.smil_past.specs.Rows.{AreAfterParent}
-use Rattle.smil_past.proofs.Turned.{turned_more}
+use Rattle.smil_past.proofs.ChildRowsTurned.{turned_more}
 use Rattle.smil_past.proofs.plays.Plays.turn_children.Goals as goal
 
 pub loop-child-init : goal.loop-child-init

@@ -6,7 +6,7 @@ use Rattle.std.proofs.lemmas.Int.{to_z-of_z}
 use Rattle.smil_model.specs.diary.Clocks.{outer}
 use Rattle.smil_model.specs.diary.Diary.{last_moment}
 use Rattle.smil_model.specs.reach.Reach.{subject_of}
-use Rattle.smil_instances.proofs.Sums.{moment_fits}
+use Rattle.smil_instances.proofs.SumsFit.{moment_fits}
 use Rattle.smil_past.specs.Followed.{began_row, deferred_row, finished_row}
 use Rattle.smil_past.proofs.OwnRows.{own_began, own_cut, own_deferred, own_ended, read_row}
 use Rattle.smil_past.proofs.plays.row.own_row.Goals as goal

@@ -3,10 +3,10 @@ use Rattle.std.specs.Prelude.{drop}
 use Rattle.std.proofs.lemmas.List.{take_at}
 use Rattle.smil_model.specs.declared.document.Node.{Node}
 use Rattle.smil_model.specs.happening.Queue.{is_playing_by, queue_of}
-use Rattle.smil_stretch.proofs.Diaries.{lawful_before, lawful_last}
+use Rattle.smil_stretch.proofs.LawfulDiaries.{lawful_before, lawful_last}
 use Rattle.smil_past.specs.Queues.{KeptQueues, MayPlay, MayTakeIn, lines, playing_lines}
-use Rattle.smil_past.proofs.Playing.{kept_same, plays_more}
-use Rattle.smil_past.proofs.Taking.{entry_more}
+use Rattle.smil_past.proofs.PlayingChildren.{kept_same, plays_more}
+use Rattle.smil_past.proofs.QueuesAfterStep.{entry_more}
 use Rattle.smil_past.proofs.queues.Queues.follow.Goals as goal
 
 pub take_in-requires-clause-may : goal.take_in-requires-clause-may

@@ -4,7 +4,7 @@ use Rattle.smil_model.specs.declared.document.Node.{Node}
 use Rattle.smil_model.specs.document.Document.{serial_of, time_children}
 use Rattle.smil_model.specs.happening.Queue.{is_playing, is_playing_by}
 use Rattle.smil_past.specs.Queues.{KeptQueues, playing_lines}
-use Rattle.smil_past.proofs.Playing.{first_plays}
+use Rattle.smil_past.proofs.PlayingChildren.{first_plays}
 use Rattle.smil_past.proofs.queues.Queues.playing.Goals as goal
 
 pub returns : goal.returns

@@ -1,7 +1,7 @@
 use Rattle.std.proofs.Common.{sym, ap, ◌∙◌}
 use Rattle.std.specs.Prelude.{is_some}
-use Rattle.smil_past.proofs.Classing.{class_there}
-use Rattle.smil_past.proofs.Listing.{known_place}
+use Rattle.smil_past.proofs.NodeClasses.{class_there}
+use Rattle.smil_past.proofs.KnownNodes.{known_place}
 use Rattle.smil_past.proofs.queues.classes.class_at.Goals as goal
 
 pub unwrap-place-requires : goal.unwrap-place-requires

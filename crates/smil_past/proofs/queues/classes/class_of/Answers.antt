@@ -1,7 +1,7 @@
 use Rattle.std.proofs.Common.{sym, ap, ◌∙◌}
 use Rattle.std.specs.Prelude.{is_some}
 use Rattle.smil_model.specs.document.Document.{has_kind, is_class_kind}
-use Rattle.smil_past.proofs.Classing.{class_known}
+use Rattle.smil_past.proofs.NodeClasses.{class_known}
 use Rattle.smil_past.proofs.queues.classes.class_of.Goals as goal
 
 pub class_by-requires-clause-known : goal.class_by-requires-clause-known

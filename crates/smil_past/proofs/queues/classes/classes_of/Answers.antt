@@ -2,7 +2,7 @@ use Rattle.std.proofs.Common.{ap, ◌∙◌, map}
 use Rattle.std.specs.Prelude.{is_some}
 use Rattle.smil_model.specs.declared.document.Node.{Node}
 use Rattle.smil_model.specs.happening.Queue.{class_facts}
-use Rattle.smil_tree.proofs.Walks.{is_found, mapped_on, walk_begun, walk_on, walk_over}
+use Rattle.smil_tree.proofs.NodeWalks.{is_found, mapped_on, walk_begun, walk_on, walk_over}
 use Rattle.smil_past.proofs.queues.classes.classes_of.Goals as goal
 
 pub loop-node-init : goal.loop-node-init

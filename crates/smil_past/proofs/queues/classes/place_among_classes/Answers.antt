@@ -6,7 +6,7 @@ use Rattle.smil_model.specs.declared.document.Node.{Node}
 use Rattle.smil_model.specs.document.Document.{node_at}
 use Rattle.smil_model.specs.document.Edits.{children}
 use Rattle.smil_laws.proofs.Lists.{filter_shorter}
-use Rattle.smil_past.proofs.Classing.{class_parent, parent_is, place_is, place_of_serial}
+use Rattle.smil_past.proofs.NodeClasses.{class_parent, parent_is, place_is, place_of_serial}
 use Rattle.smil_past.proofs.queues.classes.place_among_classes.Goals as goal
 
 pub unwrap-excl-requires : goal.unwrap-excl-requires

@@ -1,8 +1,8 @@
 use Rattle.std.proofs.Common.{◌∙◌}
 use Rattle.smil_model.specs.happening.Queue.{put_deferred}
 use Rattle.smil_excl.specs.QueueState.{deferred_after}
-use Rattle.smil_excl.proofs.Line.{deferred_is_put}
-use Rattle.smil_past.proofs.Placing.{child_absent, put_there, room_there}
+use Rattle.smil_excl.proofs.QueuePlaces.{deferred_is_put}
+use Rattle.smil_past.proofs.QueuePut.{child_absent, put_there, room_there}
 use Rattle.smil_past.proofs.queues.lines.defer.Goals as goal
 
 pub defer-requires : goal.defer-requires

@@ -3,7 +3,7 @@ use Rattle.std.specs.Prelude.{cond}
 use Rattle.std.proofs.lemmas.Bool.{eq-eqb}
 use Rattle.smil_excl.specs.QueueState.{QueueState, line_in}
 use Rattle.smil_past.specs.Queues.{without_children}
-use Rattle.smil_past.proofs.Placing.{queue_changed, queue_absent, line_there}
+use Rattle.smil_past.proofs.QueuePut.{queue_changed, queue_absent, line_there}
 use Rattle.smil_past.proofs.queues.lines.empty.Goals as goal
 
 pub returns-in-Some : goal.returns-in-Some

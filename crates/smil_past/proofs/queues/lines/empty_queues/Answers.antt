@@ -1,7 +1,7 @@
 use Rattle.std.proofs.Common.{ap, ◌∙◌, [], map}
 use Rattle.smil_model.specs.declared.document.Node.{Node}
 use Rattle.smil_excl.specs.QueueState.{line_in}
-use Rattle.smil_tree.proofs.Walks.{mapped_on, walk_begun, walk_on, walk_over}
+use Rattle.smil_tree.proofs.NodeWalks.{mapped_on, walk_begun, walk_on, walk_over}
 use Rattle.smil_past.proofs.queues.lines.empty_queues.Goals as goal
 
 pub loop-node-init : goal.loop-node-init

@@ -1,7 +1,7 @@
 use Rattle.std.proofs.Common.{◌≡◌, map, []}
 use Rattle.smil_model.specs.declared.document.Node.{Node}
 use Rattle.smil_excl.specs.QueueState.{line_in}
-use Rattle.smil_tree.proofs.Walks.{Walked}
+use Rattle.smil_tree.proofs.NodeWalks.{Walked}
 use Rattle.smil_past.proofs.queues.lines.empty_queues.Given as goal
 
 -- the queues of the nodes so far

@@ -2,9 +2,9 @@ use Rattle.std.proofs.Common.{sym, ap, ◌∙◌}
 use Rattle.std.specs.Prelude.{is_some, option_map, slice_get}
 use Rattle.smil_excl.specs.declared.queued_child.QueuedChild.{QueuedChild}
 use Rattle.smil_excl.specs.QueueState.{QueueState}
-use Rattle.smil_excl.proofs.Following.{first_of}
-use Rattle.smil_past.proofs.Listing.{known_place}
-use Rattle.smil_past.proofs.Placing.{line_there}
+use Rattle.smil_excl.proofs.QueueEntries.{first_of}
+use Rattle.smil_past.proofs.KnownNodes.{known_place}
+use Rattle.smil_past.proofs.QueuePut.{line_there}
 use Rattle.smil_past.proofs.queues.lines.first_at.Goals as goal
 
 pub unwrap-place-requires : goal.unwrap-place-requires

@@ -1,8 +1,8 @@
 use Rattle.std.proofs.Common.{ap, ◌∙◌}
 use Rattle.smil_model.specs.happening.Queue as model
 use Rattle.smil_excl.specs.QueueState.{QueueState, without, line_in}
-use Rattle.smil_excl.proofs.Line.{without_is_without}
-use Rattle.smil_past.proofs.Placing.{child_changed, child_absent, parent_there, line_there}
+use Rattle.smil_excl.proofs.QueuePlaces.{without_is_without}
+use Rattle.smil_past.proofs.QueuePut.{child_changed, child_absent, parent_there, line_there}
 use Rattle.smil_past.proofs.queues.lines.leave.Goals as goal
 
 pub returns-in-Some : goal.returns-in-Some

@@ -1,8 +1,8 @@
 use Rattle.std.proofs.Common.{◌∙◌}
 use Rattle.smil_model.specs.happening.Queue.{put_paused}
 use Rattle.smil_excl.specs.QueueState.{paused_before}
-use Rattle.smil_excl.proofs.Line.{paused_is_put}
-use Rattle.smil_past.proofs.Placing.{child_absent, put_there, room_there}
+use Rattle.smil_excl.proofs.QueuePlaces.{paused_is_put}
+use Rattle.smil_past.proofs.QueuePut.{child_absent, put_there, room_there}
 use Rattle.smil_past.proofs.queues.lines.pause.Goals as goal
 
 pub pause-requires : goal.pause-requires

@@ -1,7 +1,7 @@
 use Rattle.std.proofs.Common.{◌∙◌}
 use Rattle.smil_model.specs.happening.Queue.{queue_of}
 use Rattle.smil_past.specs.Queues.{without_children, without_child}
-use Rattle.smil_past.proofs.Taking.{began_known, paused_known, deferred_known, leaving_known, paused_room, deferred_room, after_began, after_paused, after_deferred, after_leaving, after_other}
+use Rattle.smil_past.proofs.QueuesAfterStep.{began_known, paused_known, deferred_known, leaving_known, paused_room, deferred_room, after_began, after_paused, after_deferred, after_leaving, after_other}
 use Rattle.smil_past.proofs.queues.lines.take_in.Goals as goal
 
 pub leave-requires-clause-known : goal.leave-requires-clause-known

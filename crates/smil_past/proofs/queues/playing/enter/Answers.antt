@@ -1,8 +1,8 @@
 use Rattle.std.proofs.Common.{sym, ap, ◌∙◌}
 use Rattle.std.specs.Prelude.{is_some}
 use Rattle.smil_past.specs.Queues.{with_play}
-use Rattle.smil_past.proofs.Listing.{known_node, known_place}
-use Rattle.smil_past.proofs.Playing.{entered_others, excl_absent, has_entered, may_enter, place_below}
+use Rattle.smil_past.proofs.KnownNodes.{known_node, known_place}
+use Rattle.smil_past.proofs.PlayingChildren.{entered_others, excl_absent, has_entered, may_enter, place_below}
 use Rattle.smil_past.proofs.queues.playing.enter.Goals as goal
 
 pub excl_place-requires : goal.excl_place-requires

@@ -1,7 +1,7 @@
 use Rattle.std.proofs.Common.{sym, ap, ◌∙◌, true, false}
 use Rattle.std.specs.Prelude.{is_some}
 use Rattle.smil_model.specs.document.Document.{node_at}
-use Rattle.smil_past.proofs.Above.{excl_is, has_kind_of, up}
+use Rattle.smil_past.proofs.TimeParents.{excl_is, has_kind_of, up}
 use Rattle.smil_past.proofs.queues.playing.excl_above.Goals as goal
 
 pub kind-requires : goal.kind-requires

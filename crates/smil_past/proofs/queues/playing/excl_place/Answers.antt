@@ -1,7 +1,7 @@
 use Rattle.std.proofs.Common.{◌∙◌}
 use Rattle.smil_model.specs.document.Document.{time_parent}
 use Rattle.smil_past.specs.Queues.{excl_in}
-use Rattle.smil_past.proofs.Playing.{place_of_excl}
+use Rattle.smil_past.proofs.PlayingChildren.{place_of_excl}
 use Rattle.smil_past.proofs.queues.playing.excl_place.Goals as goal
 
 pub returns : goal.returns

@@ -4,8 +4,8 @@ use Rattle.std.proofs.lemmas.Option.{get_or_from_slice_get}
 use Rattle.smil_model.specs.document.Document.{serials, time_children}
 use Rattle.smil_excl.specs.declared.queued_child.QueuedChild.{QueuedChild}
 use Rattle.smil_excl.specs.QueueState.{QueueState}
-use Rattle.smil_past.proofs.Playing.{excl_kept, excl_line, first_placed, kind_known}
-use Rattle.smil_past.proofs.Listing.{known_place}
+use Rattle.smil_past.proofs.PlayingChildren.{excl_kept, excl_line, first_placed, kind_known}
+use Rattle.smil_past.proofs.KnownNodes.{known_place}
 use Rattle.smil_past.proofs.queues.playing.first_playing.Goals as goal
 
 pub unwrap-place-requires : goal.unwrap-place-requires

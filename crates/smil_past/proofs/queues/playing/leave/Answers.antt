@@ -1,6 +1,6 @@
 use Rattle.std.proofs.Common.{◌∙◌}
 use Rattle.smil_past.specs.Queues.{without_play}
-use Rattle.smil_past.proofs.Playing.{excl_absent, has_left, left_others}
+use Rattle.smil_past.proofs.PlayingChildren.{excl_absent, has_left, left_others}
 use Rattle.smil_past.proofs.queues.playing.leave.Goals as goal
 
 pub returns-in-Some : goal.returns-in-Some

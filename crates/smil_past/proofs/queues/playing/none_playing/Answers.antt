@@ -1,7 +1,7 @@
 use Rattle.std.proofs.Common.{ap, ◌∙◌, [], map, false}
 use Rattle.smil_past.specs.Queues.{playing_line}
-use Rattle.smil_tree.proofs.Walks.{mapped_on, walk_begun, walk_on, walk_over}
-use Rattle.smil_past.proofs.Playing.{none_line}
+use Rattle.smil_tree.proofs.NodeWalks.{mapped_on, walk_begun, walk_on, walk_over}
+use Rattle.smil_past.proofs.PlayingChildren.{none_line}
 use Rattle.smil_past.proofs.queues.playing.none_playing.Goals as goal
 
 pub loop-node-init : goal.loop-node-init

@@ -1,5 +1,5 @@
 use Rattle.std.proofs.Common.{◌≡◌, map, false}
-use Rattle.smil_tree.proofs.Walks.{Walked}
+use Rattle.smil_tree.proofs.NodeWalks.{Walked}
 use Rattle.smil_past.specs.Queues.{playing_line}
 use Rattle.smil_past.proofs.queues.playing.none_playing.Given as goal
 

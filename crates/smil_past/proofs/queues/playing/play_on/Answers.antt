@@ -1,6 +1,6 @@
 use Rattle.std.proofs.Common.{◌∙◌}
 use Rattle.smil_model.specs.happening.Queue.{is_playing_by}
-use Rattle.smil_past.proofs.Playing.{all_lines, started, starts_fresh, starts_idle, stopped, stops_known}
+use Rattle.smil_past.proofs.PlayingChildren.{all_lines, started, starts_fresh, starts_idle, stopped, stops_known}
 use Rattle.smil_past.proofs.queues.playing.play_on.Goals as goal
 
 pub enter-requires : goal.enter-requires

@@ -3,12 +3,12 @@ use Rattle.std.proofs.lemmas.List.{length-take, take_all}
 use Rattle.smil_model.specs.declared.limits.TheConstants.{DIARY_ENTRIES}
 use Rattle.smil_model.specs.declared.diary.Entry.{Entry}
 use Rattle.smil_laws.proofs.Lists.{take-more_at}
-use Rattle.smil_stretch.proofs.Idle.{next_at, no_entry}
+use Rattle.smil_stretch.proofs.IdleClocks.{next_at, no_entry}
 use Rattle.smil_instances.specs.Dependents.{AreDependentsOf}
 use Rattle.smil_instances.specs.Instances.{SettledInstances}
 use Rattle.smil_instances.specs.Intake.{history_of}
 use Rattle.smil_past.specs.Readings.{FollowsAll}
-use Rattle.smil_past.proofs.Fronts.{follows_at}
+use Rattle.smil_past.proofs.FirstEntries.{follows_at}
 use Rattle.smil_past.proofs.readings.Readings.back.Goals as goal
 
 -- there is room behind the first entries

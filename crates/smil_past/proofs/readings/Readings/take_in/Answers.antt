@@ -4,7 +4,7 @@ use Rattle.smil_model.specs.declared.limits.TheConstants.{DIARY_ENTRIES}
 use Rattle.smil_instance_rows.specs.Notes.{GoesBackTheSame}
 use Rattle.smil_instances.specs.Instances.{IsSettled, SettledInstances}
 use Rattle.smil_instances.specs.Intake.{history_of}
-use Rattle.smil_past.proofs.Appended.{taken_in}
+use Rattle.smil_past.proofs.DiaryAppended.{taken_in}
 use Rattle.smil_past.proofs.readings.Readings.take_in.Goals as goal
 
 -- there is room for the last entry

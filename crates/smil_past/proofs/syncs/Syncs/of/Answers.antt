@@ -1,7 +1,7 @@
 use Rattle.std.proofs.Common.{subst, List, ℕ}
 use Rattle.std.specs.FinMap.{get}
 use Rattle.smil_instances.specs.Spread.{IsIndex}
-use Rattle.smil_past.proofs.References.{rows_indexed}
+use Rattle.smil_past.proofs.ItemReferences.{rows_indexed}
 use Rattle.smil_past.proofs.syncs.Syncs.of.Goals as goal
 
 pub invariant_of-result : goal.invariant_of-result

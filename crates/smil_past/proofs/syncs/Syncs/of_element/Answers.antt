@@ -1,6 +1,6 @@
 use Rattle.std.proofs.Common.{◌≡◌, ◌∙◌, ap, Some, None}
 use Rattle.smil_past.specs.Syncs.{sync_row, syncs_on}
-use Rattle.smil_past.proofs.References.{side_told}
+use Rattle.smil_past.proofs.ItemReferences.{side_told}
 use Rattle.smil_past.proofs.syncs.Syncs.of_element.Goals as goal
 
 pub returns-in-Some : goal.returns-in-Some

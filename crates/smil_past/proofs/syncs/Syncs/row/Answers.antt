@@ -1,7 +1,7 @@
 use Rattle.std.proofs.Common.{◌≡◌, ◌∙◌, ap, Some, None}
 use Rattle.std.specs.Prelude.{slice_get}
 use Rattle.std.specs.FinMap.{get}
-use Rattle.smil_past.proofs.References.{row_found}
+use Rattle.smil_past.proofs.ItemReferences.{row_found}
 use Rattle.smil_past.proofs.syncs.Syncs.row.Goals as goal
 
 pub returns-in-Some : goal.returns-in-Some

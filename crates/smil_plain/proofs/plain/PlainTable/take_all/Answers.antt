@@ -1,15 +1,15 @@
 use Rattle.std.proofs.Common.{◌≡◌, ◌∙◌, ap, inl, sym, subst, refl, List, ℕ, length, ℤ, w64, arith}
 use Rattle.std.proofs.lemmas.Int.{to_z-of_z}
 use Rattle.smil_model.specs.declared.document.Node.{Node}
-use Rattle.smil_laws.proofs.Numbered.{ordered}
+use Rattle.smil_laws.proofs.NumberedTrees.{ordered}
 use Rattle.smil_graph.specs.Graph.{IsGraphOrder}
 use Rattle.smil_past.specs.Past.{history_of}
 use Rattle.smil_rounds.specs.Current.{IsCurrent}
 use Rattle.smil_rounds.specs.Round.{AreRowsEvaluated, due_in}
-use Rattle.smil_rounds.proofs.Taking.{take_next, unchanged_both, unchanged_none}
-use Rattle.smil_rounds.proofs.Current.{all_current, none_taken, ordered_element}
-use Rattle.smil_cells.proofs.Distinct.{elements_distinct, order_distinct}
-use Rattle.smil_plain.proofs.Telling.{later_next, told_next}
+use Rattle.smil_rounds.proofs.RowEvaluated.{take_next, unchanged_both, unchanged_none}
+use Rattle.smil_rounds.proofs.CurrentRowsExact.{all_current, none_taken, ordered_element}
+use Rattle.smil_cells.proofs.DistinctElements.{elements_distinct, order_distinct}
+use Rattle.smil_plain.proofs.ElementsTold.{later_next, told_next}
 use Rattle.smil_plain.proofs.plain.PlainTable.take_all.Goals as goal
 
 pub take_one-requires-clause-element : goal.take_one-requires-clause-element

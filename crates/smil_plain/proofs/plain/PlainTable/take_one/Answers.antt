@@ -3,9 +3,9 @@ use Rattle.std.specs.Prelude.{is_some}
 use Rattle.smil_past.specs.Past.{history_of}
 use Rattle.smil_rounds.specs.Current.{interval_in}
 use Rattle.smil_rounds.specs.Round.{StayUnchanged}
-use Rattle.smil_rounds.proofs.Taking.{IsFound, found, has_row, own_first, placed, taken_by, unchanged_pushed, unchanged_same}
+use Rattle.smil_rounds.proofs.RowEvaluated.{IsFound, found, has_row, own_first, placed, taken_by, unchanged_pushed, unchanged_same}
 use Rattle.smil_plain.specs.Plain.{IsTold}
-use Rattle.smil_plain.proofs.Telling.{told_pushed, told_same}
+use Rattle.smil_plain.proofs.ElementsTold.{told_pushed, told_same}
 use Rattle.smil_plain.proofs.plain.PlainTable.take_one.Given.{Over}
 use Rattle.smil_plain.proofs.plain.PlainTable.take_one.Goals as goal
 use Rattle.smil_plain.proofs.plain.PlainTable.take_one.Goals.{After-unwrap-index, then-not-is_same_interval+in_ok-push, else-not-is_same_interval}

@@ -1,9 +1,9 @@
 use Rattle.std.proofs.Common.{◌∙◌, sym, ap, refl, None}
 use Rattle.std.specs.Prelude.{option_map}
 use Rattle.smil_model.specs.happening.Keys.{keys}
-use Rattle.smil_due.proofs.Serials.{keys_have_serials}
+use Rattle.smil_due.proofs.KeySerials.{keys_have_serials}
 use Rattle.smil_element.specs.Parts.{coming_meant}
-use Rattle.smil_rounds.proofs.First.{first_by_key, none_first}
+use Rattle.smil_rounds.proofs.FirstComing.{first_by_key, none_first}
 use Rattle.smil_plain.proofs.plain.PlainTableTable.first.Goals as goal
 
 pub returns-in_err-least : goal.returns-in_err-least

@@ -1,5 +1,5 @@
 use Rattle.std.proofs.Common.{◌∙◌}
-use Rattle.smil_rounds.proofs.Current.{current_intervals}
+use Rattle.smil_rounds.proofs.CurrentRowsExact.{current_intervals}
 use Rattle.smil_plain.proofs.plain.PlainTableTable.interval.Goals as goal
 
 pub returns : goal.returns

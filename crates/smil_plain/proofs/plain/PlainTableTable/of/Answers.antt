@@ -1,7 +1,7 @@
 use Rattle.std.proofs.Common.{◌∙◌, ap}
 use Rattle.smil_model.specs.document.Document.{Document, elements, serials}
-use Rattle.smil_rounds.proofs.Empty.{empty_serials}
-use Rattle.smil_rounds.proofs.Paired.{serials_in}
+use Rattle.smil_rounds.proofs.RowsEmpty.{empty_serials}
+use Rattle.smil_rounds.proofs.RowsBesideElements.{serials_in}
 use Rattle.smil_plain.proofs.plain.PlainTableTable.of.Goals as goal
 
 pub take_all-requires-clause-of_elements : goal.take_all-requires-clause-of_elements

@@ -4,13 +4,13 @@ use Rattle.std.specs.Prelude.{OnOk}
 use Rattle.smil_model.specs.document.Closure.{has}
 use Rattle.smil_model.specs.interval.Current.{current_interval}
 use Rattle.smil_past.specs.Past.{front, history_of}
-use Rattle.smil_element.proofs.Latest.{present_fits}
+use Rattle.smil_element.proofs.PresentMoment.{present_fits}
 use Rattle.smil_rounds.specs.Current.{IsCurrent, interval_in}
 use Rattle.smil_cells.specs.Evaluated.{AreChanged}
-use Rattle.smil_plain.proofs.Telling.{told_current}
+use Rattle.smil_plain.proofs.ElementsTold.{told_current}
 use Rattle.smil_rounds.specs.Round.{StayUnchanged}
-use Rattle.smil_rounds.proofs.Paired.{serials_in}
-use Rattle.smil_rounds.proofs.Current.{current_elements, others_stay, where_both}
+use Rattle.smil_rounds.proofs.RowsBesideElements.{serials_in}
+use Rattle.smil_rounds.proofs.CurrentRowsExact.{current_elements, others_stay, where_both}
 use Rattle.smil_plain.proofs.plain.PlainTableTable.refresh.Goals as goal
 
 pub take_all-requires-clause-of_elements : goal.take_all-requires-clause-of_elements

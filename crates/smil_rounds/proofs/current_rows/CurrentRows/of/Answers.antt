@@ -4,7 +4,7 @@ use Rattle.std.specs.List.{position}
 use Rattle.smil_model.specs.document.Document.{elements}
 use Rattle.smil_rounds.specs.declared.current_rows.CurrentRow.{CurrentRow}
 use Rattle.smil_rounds.specs.Rows.{AreNear, empty_row, row_without}
-use Rattle.smil_rounds.proofs.Empty.{empty_by_serials, empty_near}
+use Rattle.smil_rounds.proofs.RowsEmpty.{empty_by_serials, empty_near}
 use Rattle.smil_rounds.proofs.current_rows.CurrentRows.of.Goals as goal
 
 pub invariant_of-result : goal.invariant_of-result

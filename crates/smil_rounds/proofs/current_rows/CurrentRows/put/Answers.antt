@@ -3,7 +3,7 @@ use Rattle.std.specs.Prelude.{◌==◌}
 use Rattle.std.specs.List.{position}
 use Rattle.std.specs.FinMap.{get}
 use Rattle.smil_rounds.specs.declared.current_rows.CurrentRow.{CurrentRow}
-use Rattle.smil_rounds.proofs.Rows.{first_of_position, near_set, places_same, set_serials}
+use Rattle.smil_rounds.proofs.RowPut.{first_of_position, near_set, places_same, set_serials}
 use Rattle.smil_rounds.proofs.current_rows.CurrentRows.put.Goals as goal
 
 pub invariant_of-self : goal.invariant_of-self

@@ -1,7 +1,7 @@
 use Rattle.std.proofs.Common.{◌∙◌, ap, sym, get_or}
 use Rattle.smil_rounds.specs.declared.current_rows.CurrentRow.{CurrentRow}
 use Rattle.smil_rounds.specs.Current.{interval_in}
-use Rattle.smil_rounds.proofs.Rows.{interval_none, interval_first, first_of_position}
+use Rattle.smil_rounds.proofs.RowPut.{interval_none, interval_first, first_of_position}
 use Rattle.smil_rounds.proofs.current_rows.CurrentRowsIntervals.interval.Goals as goal
 
 pub returns-in_err-index-clause-value : goal.returns-in_err-index-clause-value

@@ -4,7 +4,7 @@ use Rattle.std.specs.List.{insert, position_or_len}
 use Rattle.smil_model.specs.declared.view.Layer.{Layer}
 use Rattle.smil_model.specs.shown.Sandwich.{put_layer}
 use Rattle.smil_sandwich.specs.Stacks.{applied, without}
-use Rattle.smil_sandwich.proofs.Places.{above, put_at}
+use Rattle.smil_sandwich.proofs.LayerPlaces.{above, put_at}
 use Rattle.smil_sandwich.proofs.sandwich.Sandwich.apply.Goals as goal
 
 pub returns-in_default-clause-ok : goal.returns-in_default-clause-ok

@@ -6,8 +6,8 @@ use Rattle.std.proofs.lemmas.Iterator.Consumers.{YieldsList-from_filter, nth_fro
 use Rattle.smil_model.specs.declared.view.Layer.{Layer}
 use Rattle.smil_model.specs.shown.Sandwich.{layers_on, stack_of}
 use Rattle.smil_sandwich.specs.Stacks.{AreKept}
-use Rattle.smil_sandwich.proofs.Places.{read_at}
-use Rattle.smil_sandwich.proofs.Sorted.{kept_on}
+use Rattle.smil_sandwich.proofs.LayerPlaces.{read_at}
+use Rattle.smil_sandwich.proofs.LayersSorted.{kept_on}
 use Rattle.smil_sandwich.proofs.sandwich.Sandwich.at.Goals as goal
 use Rattle.smil_sandwich.proofs.sandwich.Sandwich.at.Goals.{After-nth}
 

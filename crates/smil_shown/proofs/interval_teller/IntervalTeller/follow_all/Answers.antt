@@ -5,9 +5,9 @@ use Rattle.std.proofs.lemmas.Option.{slice_get-get_or}
 use Rattle.smil_model.specs.declared.diary.Entry.{Entry}
 use Rattle.smil_model.specs.diary.Diary.{History, up_to}
 use Rattle.smil_model.specs.diary.Lawful.{IsLawful}
-use Rattle.smil_stretch.proofs.Diaries.{lawful_first}
-use Rattle.smil_stretch.proofs.Idle.{next_first, no_entry}
-use Rattle.smil_model.proofs.Growing.{begins_by}
+use Rattle.smil_stretch.proofs.LawfulDiaries.{lawful_first}
+use Rattle.smil_stretch.proofs.IdleClocks.{next_first, no_entry}
+use Rattle.smil_model.proofs.GrowingTexts.{begins_by}
 use Rattle.smil_report.specs.Words.{who_of}
 use Rattle.smil_shown.specs.Histories.{IsTold}
 use Rattle.smil_shown.proofs.ToldIntervals.{near_at}

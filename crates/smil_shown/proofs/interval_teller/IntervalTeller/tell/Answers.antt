@@ -8,8 +8,8 @@ use Rattle.smil_model.specs.declared.view.How.TheVariants as how
 use Rattle.smil_model.specs.diary.Diary.{History, with_entry}
 use Rattle.smil_model.specs.diary.Lawful.{IsLawful}
 use Rattle.smil_model.specs.Times.{IsMoment}
-use Rattle.smil_stretch.proofs.Turning.{entry_moment}
-use Rattle.smil_instances.proofs.Sums.{moment_fits}
+use Rattle.smil_stretch.proofs.PauseTurns.{entry_moment}
+use Rattle.smil_instances.proofs.SumsFit.{moment_fits}
 use Rattle.smil_report.specs.Words.{who_of}
 use Rattle.smil_shown.specs.Histories.{finish_line}
 use Rattle.smil_shown.proofs.ToldIntervals.{began_shown, ended_text, read_shown}

@@ -1,7 +1,7 @@
 use Rattle.std.proofs.Common.{sym, subst, ℕ, List}
 use Rattle.smil_model.specs.declared.view.Layer.{Layer as AnyLayer}
 use Rattle.smil_sandwich.specs.Stacks.{AreKept}
-use Rattle.smil_sandwich.proofs.Sorted.{applied_are_kept}
+use Rattle.smil_sandwich.proofs.LayersSorted.{applied_are_kept}
 use Rattle.smil_shown.specs.Sets.{AreSetsOf}
 use Rattle.smil_shown.proofs.sets.Sets.at.Goals as goal
 

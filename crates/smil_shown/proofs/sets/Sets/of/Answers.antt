@@ -5,7 +5,7 @@ use Rattle.smil_model.specs.document.Document.{node_at}
 use Rattle.smil_model.specs.shown.Sandwich.{layers}
 use Rattle.smil_tree.proofs.KinLists.{each_at}
 use Rattle.smil_shown.specs.Sets.{AreSetsOf}
-use Rattle.smil_shown.proofs.Apart.{views_known}
+use Rattle.smil_shown.proofs.LayersApart.{views_known}
 use Rattle.smil_shown.proofs.SetLayers.{layers_more, next_apart}
 use Rattle.smil_shown.proofs.sets.Sets.of.Goals as goal
 

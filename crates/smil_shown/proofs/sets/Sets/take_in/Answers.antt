@@ -7,7 +7,7 @@ use Rattle.smil_model.specs.document.Document.{node_at}
 use Rattle.smil_model.specs.shown.Sandwich.{layer_in, layer_of, with_setter}
 use Rattle.smil_model.specs.ListTables.{rows}
 use Rattle.smil_shown.specs.Sets.{AreSetsOf, LayerTable, and_layer}
-use Rattle.smil_tree.proofs.Changed.{some_node}
+use Rattle.smil_tree.proofs.AttributesChanged.{some_node}
 use Rattle.smil_shown.proofs.SetLayers.{rows_noted, taken}
 use Rattle.smil_sandwich.specs.Stacks.{AreApart}
 use Rattle.smil_shown.proofs.sets.Sets.take_in.Goals as goal

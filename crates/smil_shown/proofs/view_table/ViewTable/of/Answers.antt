@@ -3,7 +3,7 @@ use Rattle.std.specs.Prelude.{◌==◌}
 use Rattle.std.specs.List.{position}
 use Rattle.smil_model.specs.declared.view.View.{View}
 use Rattle.smil_model.specs.document.Document.{Document, elements, serials}
-use Rattle.smil_instances.proofs.Siblings.{distinct_elements}
+use Rattle.smil_instances.proofs.SiblingBefore.{distinct_elements}
 use Rattle.smil_shown.specs.ViewTable.{AreOne, put_back, view_now}
 use Rattle.smil_shown.proofs.AllViews.{one_each, place_of_view}
 use Rattle.smil_shown.proofs.view_table.ViewTable.of.Goals as goal

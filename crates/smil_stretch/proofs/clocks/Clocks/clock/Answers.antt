@@ -1,7 +1,7 @@
 use Rattle.std.proofs.Common.{ap, ◌∙◌, Some}
 use Rattle.std.specs.Prelude.{slice_get}
 use Rattle.smil_stretch.specs.NodeClocks.{clock_at}
-use Rattle.smil_stretch.proofs.Told.{clock_by_place, lent_at}
+use Rattle.smil_stretch.proofs.ReadingsByClock.{clock_by_place, lent_at}
 use Rattle.smil_stretch.proofs.clocks.Clocks.clock.Goals as goal
 
 pub returns-in_err-place-clause-value : goal.returns-in_err-place-clause-value

@@ -5,8 +5,8 @@ use Rattle.std.proofs.lemmas.Int.{to_z-of_z}
 use Rattle.smil_model.specs.diary.Lawful.{IsLawful}
 use Rattle.smil_stretch.specs.Clocks.{AreClocksOf, ends_pause}
 use Rattle.smil_model.specs.diary.Diary.{with_entry}
-use Rattle.smil_stretch.proofs.Diaries.{lawful_last, ended_known}
-use Rattle.smil_stretch.proofs.Left.{others_leave, plain, not_paused, ending}
+use Rattle.smil_stretch.proofs.LawfulDiaries.{lawful_last, ended_known}
+use Rattle.smil_stretch.proofs.ClocksLeft.{others_leave, plain, not_paused, ending}
 use Rattle.smil_stretch.proofs.clocks.Clocks.follow.Goals as goal
 
 pub returns-in_default : goal.returns-in_default

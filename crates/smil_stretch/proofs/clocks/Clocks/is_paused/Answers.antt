@@ -1,6 +1,6 @@
 use Rattle.std.proofs.Common.{ap, ◌∙◌}
 use Rattle.smil_stretch.specs.NodeClocks.{paused_by}
-use Rattle.smil_stretch.proofs.Told.{paused_told}
+use Rattle.smil_stretch.proofs.ReadingsByClock.{paused_told}
 use Rattle.smil_stretch.proofs.clocks.Clocks.is_paused.Goals as goal
 
 pub returns-in-Some : goal.returns-in-Some

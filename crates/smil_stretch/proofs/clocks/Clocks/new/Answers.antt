@@ -1,6 +1,6 @@
 use Rattle.std.proofs.Common.{sym, subst}
 use Rattle.smil_stretch.specs.NodeClocks.{AllFit}
-use Rattle.smil_stretch.proofs.Idle.{idle_fit}
+use Rattle.smil_stretch.proofs.IdleClocks.{idle_fit}
 use Rattle.smil_stretch.proofs.clocks.Clocks.new.Goals as goal
 
 pub indexed-requires : goal.indexed-requires

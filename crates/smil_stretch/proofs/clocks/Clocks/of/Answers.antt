@@ -2,8 +2,8 @@ use Rattle.std.proofs.Common.{sym, subst, ◌∙◌, take, ◌+◌}
 use Rattle.smil_model.specs.diary.Diary.{up_to}
 use Rattle.smil_model.specs.diary.Lawful.{IsLawful}
 use Rattle.smil_stretch.specs.Clocks.{AreClocksOf}
-use Rattle.smil_stretch.proofs.Diaries.{lawful_first}
-use Rattle.smil_stretch.proofs.Idle.{idle_clocks_of, next_at, next_first}
+use Rattle.smil_stretch.proofs.LawfulDiaries.{lawful_first}
+use Rattle.smil_stretch.proofs.IdleClocks.{idle_clocks_of, next_at, next_first}
 use Rattle.smil_stretch.proofs.clocks.Clocks.of.Goals as goal
 
 pub loop-entry-init : goal.loop-entry-init

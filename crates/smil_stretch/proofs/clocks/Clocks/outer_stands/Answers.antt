@@ -1,6 +1,6 @@
 use Rattle.std.proofs.Common.{ap, ◌∙◌}
 use Rattle.smil_stretch.specs.NodeClocks.{stands_by}
-use Rattle.smil_stretch.proofs.Told.{outer_stands_told}
+use Rattle.smil_stretch.proofs.ReadingsByClock.{outer_stands_told}
 use Rattle.smil_stretch.proofs.clocks.Clocks.outer_stands.Goals as goal
 
 pub returns : goal.returns

@@ -2,7 +2,7 @@ use Rattle.std.proofs.Common.{sym}
 use mir.Syntax.{w64}
 use Rattle.std.proofs.lemmas.Int.{to_z-of_z}
 use Rattle.smil_model.specs.declared.diary.Step.TheVariants.{Paused}
-use Rattle.smil_stretch.proofs.Diaries.{lawful_last, pause_turns}
+use Rattle.smil_stretch.proofs.LawfulDiaries.{lawful_last, pause_turns}
 use Rattle.smil_stretch.proofs.clocks.Clocks.pause.Goals as goal
 
 pub turn-requires : goal.turn-requires

@@ -4,7 +4,7 @@ use mir.Val.{SFits}
 use Rattle.std.proofs.lemmas.Int.{to_z-of_z}
 use Rattle.smil_stretch.specs.NodeClocks.{parent_at, shown_by, stands_by}
 use Rattle.smil_stretch.proofs.ParentPlaces.{parent_found}
-use Rattle.smil_stretch.proofs.Told.{run_told, outer_told, stands_told, outer_stands_told}
+use Rattle.smil_stretch.proofs.ReadingsByClock.{run_told, outer_told, stands_told, outer_stands_told}
 use Rattle.smil_stretch.proofs.clocks.Clocks.readings.Goals as goal
 
 pub returns-clause-own : goal.returns-clause-own

@@ -1,7 +1,7 @@
 use Rattle.std.proofs.Common.{sym}
 use mir.Syntax.{w64}
 use Rattle.std.proofs.lemmas.Int.{to_z-of_z}
-use Rattle.smil_stretch.proofs.Diaries.{lawful_last, end_turns}
+use Rattle.smil_stretch.proofs.LawfulDiaries.{lawful_last, end_turns}
 use Rattle.smil_stretch.proofs.clocks.Clocks.resume.Goals as goal
 
 pub turn-requires : goal.turn-requires

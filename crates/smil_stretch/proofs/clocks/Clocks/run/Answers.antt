@@ -3,7 +3,7 @@ use mir.Syntax.{w64}
 use mir.Val.{SFits}
 use Rattle.std.proofs.lemmas.Int.{to_z-of_z}
 use Rattle.smil_stretch.specs.NodeClocks.{shown_by}
-use Rattle.smil_stretch.proofs.Told.{run_told}
+use Rattle.smil_stretch.proofs.ReadingsByClock.{run_told}
 use Rattle.smil_stretch.proofs.clocks.Clocks.run.Goals as goal
 
 pub returns-clause-value : goal.returns-clause-value

@@ -4,7 +4,7 @@ use mir.Syntax.{w64}
 use Rattle.std.proofs.lemmas.Int.{ints, to_z-of_z}
 use Rattle.smil_model.specs.diary.Clocks.{between, outer, outer_stands}
 use Rattle.smil_stretch.specs.NodeClocks.{shown_by, stands_by}
-use Rattle.smil_stretch.proofs.Told.{outer_told, outer_stands_told, running}
+use Rattle.smil_stretch.proofs.ReadingsByClock.{outer_told, outer_stands_told, running}
 use Rattle.smil_stretch.proofs.clocks.Clocks.running_between.Goals as goal
 use Rattle.smil_stretch.proofs.clocks.Clocks.running_between.Goals.{then-stands_by-via-then-stands_by, then-stands_by-via-else-stands_by+then-stands_by-2}
 

@@ -14,7 +14,7 @@ use Rattle.smil_stretch.specs.declared.clock.NodeClock.{NodeClock}
 use Rattle.smil_stretch.specs.Clocks.{AreClocksOf, clocks_of}
 use Rattle.smil_model.specs.Times.{IsMoment}
 use Rattle.smil_stretch.specs.NodeClocks.{AllFit, ArePlacesOf, IsTurned, Turns}
-use Rattle.smil_stretch.proofs.Turning.{entry_moment, known_place, turned_from, clocks_with, places_same, all_fit}
+use Rattle.smil_stretch.proofs.PauseTurns.{entry_moment, known_place, turned_from, clocks_with, places_same, all_fit}
 use Rattle.smil_stretch.proofs.clocks.Clocks.turn.Goals as goal
 
 pub unwrap-place-requires : goal.unwrap-place-requires

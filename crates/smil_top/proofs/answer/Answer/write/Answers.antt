@@ -1,6 +1,6 @@
 use Rattle.std.proofs.Common.{subst}
 use Rattle.smil_top.specs.Running.{WritesAll, Writes}
-use Rattle.smil_top.proofs.Writing.{Writes-of, Writes-two}
+use Rattle.smil_top.proofs.TextsWritten.{Writes-of, Writes-two}
 use Rattle.smil_top.proofs.answer.Answer.write.Goals as goal
 
 pub returns-clause-writes : goal.returns-clause-writes

@@ -6,9 +6,9 @@ use Rattle.smil_top.specs.declared.audit.AuditInput.{AuditInput}
 use Rattle.smil_top.specs.declared.fault.Fault.{Fault}
 use Rattle.smil_top.specs.Auditing.{IsSound, ReadsAs, audit_input}
 use Rattle.smil_top.specs.Running.{IsLine}
-use Rattle.smil_top.proofs.Auditing.{end-number, more_read}
-use Rattle.smil_top.proofs.Cuts.{count-cut_of}
-use Rattle.smil_top.proofs.Serving.{Nexts, Nexts-of, Hands, hands-no_fault, next-line, next-end, next-too_long, next-fault, fault-open, HasRead, HasRead-fresh}
+use Rattle.smil_top.proofs.AuditLines.{end-number, more_read}
+use Rattle.smil_top.proofs.OrderCuts.{count-cut_of}
+use Rattle.smil_top.proofs.ServeStep.{Nexts, Nexts-of, Hands, hands-no_fault, next-line, next-end, next-too_long, next-fault, fault-open, HasRead, HasRead-fresh}
 use Rattle.smil_outside.specs.Faults.{HasRisen}
 use Rattle.smil_top.proofs.audit.AuditOpening.read_all.Given.{Over}
 use Rattle.smil_top.proofs.audit.AuditOpening.read_all.Goals as goal

@@ -2,7 +2,7 @@ use Rattle.std.proofs.Common.{◌≡◌, ◌-◌}
 use Rattle.std.specs.Prelude.{IfOk}
 use Rattle.smil_outside.specs.declared.line.TheConstants.{INPUT_BYTES}
 use Rattle.smil_top.specs.Auditing.{IsSound, ReadsAs, audit_input}
-use Rattle.smil_top.proofs.Serving.{IsReading}
+use Rattle.smil_top.proofs.ServeStep.{IsReading}
 use Rattle.smil_top.proofs.audit.AuditOpening.read_all.Given as goal
 
 -- the lines so far are read, without a fault

@@ -1,4 +1,4 @@
-use Rattle.smil_top.proofs.Auditing.{told-fault}
+use Rattle.smil_top.proofs.AuditLines.{told-fault}
 use Rattle.smil_top.proofs.audit.WholeInput.told.Goals as goal
 
 pub returns-in-Err-clause-told : goal.returns-in-Err-clause-told

@@ -1,5 +1,5 @@
 use Rattle.std.proofs.Common.{◌++◌, false, ap, sym, ◌∙◌, arith}
-use Rattle.smil_top.proofs.Cuts.{count-with_line}
+use Rattle.smil_top.proofs.OrderCuts.{count-with_line}
 use Rattle.smil_top.proofs.held.Held.line.Goals as goal
 
 pub returns-clause-answers : goal.returns-clause-answers

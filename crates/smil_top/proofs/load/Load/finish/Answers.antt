@@ -1,6 +1,6 @@
 use Rattle.std.proofs.Common.{subst}
 use Rattle.smil_top.specs.declared.loaded.NamedLines.{NamedLines}
-use Rattle.smil_top.proofs.Loads.{IsGivenAt, Gives-ok, Gives-err}
+use Rattle.smil_top.proofs.LoadLines.{IsGivenAt, Gives-ok, Gives-err}
 use Rattle.smil_top.proofs.load.Load.finish.Goals as goal
 
 pub returns-in-Ok-clause-given : goal.returns-in-Ok-clause-given

@@ -2,7 +2,7 @@ use Rattle.std.proofs.Common.{sym, subst}
 use Rattle.smil_top.specs.declared.loaded.NamedLines.{NamedLines}
 use Rattle.smil_top.specs.Cut.{NumberedLine}
 use Rattle.smil_top.specs.Running.{IsRead}
-use Rattle.smil_top.proofs.Loads.{IsNodeAt, IsRead-ok, IsRead-err, more_lines}
+use Rattle.smil_top.proofs.LoadLines.{IsNodeAt, IsRead-ok, IsRead-err, more_lines}
 use Rattle.smil_top.proofs.load.Load.push.Goals as goal
 use Rattle.smil_top.proofs.load.Load.push.Goals.{in-Ok, in-Err}
 

@@ -1,6 +1,6 @@
 use Rattle.std.proofs.Common.{◌≡◌, Ok, subst}
 use Rattle.smil_switch.specs.Choices.{pushed}
-use Rattle.smil_top.proofs.Raised.{kept-level}
+use Rattle.smil_top.proofs.LineLevels.{kept-level}
 use Rattle.smil_top.proofs.loading.Loading.push_chosen.Goals as goal
 
 pub push_kept-requires : goal.push_kept-requires

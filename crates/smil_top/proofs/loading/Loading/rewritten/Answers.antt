@@ -1,6 +1,6 @@
 use Rattle.std.proofs.Common.{ℕ, List, Bor, to_z, of_z, w64}
 use Rattle.std.specs.Prelude.{option_map}
-use Rattle.smil_top.proofs.Near.{near-fault}
+use Rattle.smil_top.proofs.FaultColumns.{near-fault}
 use Rattle.smil_top.proofs.loading.Loading.rewritten.Goals as goal
 
 pub refusal-requires : goal.refusal-requires

@@ -5,11 +5,11 @@ use Rattle.smil_outside.specs.declared.line.Line.TheVariants.{End, InputTooLong,
 use Rattle.smil_top.specs.Cut.{cut_of, with_line}
 use Rattle.smil_top.specs.Transcript.{TranscriptState, untold}
 use Rattle.smil_top.specs.Running.{Answers, IsLine, IsRunning}
-use Rattle.smil_top.proofs.Evaluated.{evaluated-fresh, evaluated-next}
-use Rattle.smil_top.proofs.Serving.{Nexts, Nexts-of, Hands, hands-no_fault, next-line, fault-open, HasRead, HasRead-fresh, IsServing, IsServing-of, Wrote-fresh, Wrote-next, RanCounted-end, RanCounted-untold, Ran-too_long, Ran-fault, Ran-unwritten}
+use Rattle.smil_top.proofs.EvaluationCounts.{evaluated-fresh, evaluated-next}
+use Rattle.smil_top.proofs.ServeStep.{Nexts, Nexts-of, Hands, hands-no_fault, next-line, fault-open, HasRead, HasRead-fresh, IsServing, IsServing-of, Wrote-fresh, Wrote-next, RanCounted-end, RanCounted-untold, Ran-too_long, Ran-fault, Ran-unwritten}
 use Rattle.smil_live.proofs.EditedPresentations.{where_err}
 use Rattle.smil_outside.specs.Faults.{HasRisen}
-use Rattle.smil_top.proofs.Writing.{where_ok}
+use Rattle.smil_top.proofs.TextsWritten.{where_ok}
 use Rattle.smil_top.proofs.run.Run.answer_all.Given.{Over}
 use Rattle.smil_top.proofs.run.Run.answer_all.Goals as goal
 use Rattle.smil_top.proofs.run.Run.answer_all.Goals.{After-line, After-next}

@@ -3,7 +3,7 @@ use Rattle.smil_outside.specs.declared.line.TheConstants.{INPUT_BYTES}
 use Rattle.smil_top.specs.Cut.{cut_of}
 use Rattle.smil_top.specs.Transcript.{untold}
 use Rattle.smil_top.specs.Running.{HasEvaluated, IsRunning}
-use Rattle.smil_top.proofs.Serving.{IsReading, Wrote}
+use Rattle.smil_top.proofs.ServeStep.{IsReading, Wrote}
 use Rattle.smil_top.proofs.run.Run.answer_all.Given as goal
 
 -- the lines so far are read and answered, without a fault; the count of evaluations only rises

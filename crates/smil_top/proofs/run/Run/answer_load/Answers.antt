@@ -3,8 +3,8 @@ use Rattle.std.proofs.lemmas.Result.{err_from_is_err_and}
 use Rattle.smil_top.specs.Cut.{OrderLines, load}
 use Rattle.smil_top.specs.Evaluations.{number_of}
 use Rattle.smil_top.specs.Running.{IsOrderCounted, MakesAnswer, answering, no_text}
-use Rattle.smil_top.proofs.Evaluated.{counted-fault, counted-load}
-use Rattle.smil_top.proofs.Tells.{load-made, unread-made}
+use Rattle.smil_top.proofs.EvaluationCounts.{counted-fault, counted-load}
+use Rattle.smil_top.proofs.TranscriptStep.{load-made, unread-made}
 use Rattle.smil_top.proofs.run.Run.answer_load.Goals as goal
 
 pub returns-clause-answer : goal.returns-clause-answer

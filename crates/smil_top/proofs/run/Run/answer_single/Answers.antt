@@ -4,8 +4,8 @@ use Rattle.smil_top.specs.Evaluations.{line_number}
 use Rattle.smil_top.specs.Answers.{at_line}
 use Rattle.smil_top.specs.Transcript.{TranscriptState}
 use Rattle.smil_top.specs.Running.{MakesAnswer, Makes, Tells, answering, line_by}
-use Rattle.smil_top.proofs.Evaluated.{counted-single, evaluated-more}
-use Rattle.smil_top.proofs.Tells.{counted_as, single-made, told-order}
+use Rattle.smil_top.proofs.EvaluationCounts.{counted-single, evaluated-more}
+use Rattle.smil_top.proofs.TranscriptStep.{counted_as, single-made, told-order}
 use Rattle.smil_top.proofs.run.Run.answer_single.Given.{Over}
 use Rattle.smil_top.proofs.run.Run.answer_single.Goals as goal
 use Rattle.smil_top.proofs.run.Run.answer_single.Goals.{After-answer_line-answered}

@@ -5,8 +5,8 @@ use Rattle.smil_top.specs.declared.fault.Fault.{Fault}
 use Rattle.smil_top.specs.Cut.{LoadLines, load as load_order, unended}
 use Rattle.smil_top.specs.Evaluations.{number_of}
 use Rattle.smil_top.specs.Running.{AnswersOrders, EvaluatesOn}
-use Rattle.smil_top.proofs.Evaluated.{counted-fault, evaluated-ended, evaluated-more}
-use Rattle.smil_top.proofs.Tells.{ended-nothing, load-of, no_load-of, nothing-told, tells-on, unfinished-made, told-order}
+use Rattle.smil_top.proofs.EvaluationCounts.{counted-fault, evaluated-ended, evaluated-more}
+use Rattle.smil_top.proofs.TranscriptStep.{ended-nothing, load-of, no_load-of, nothing-told, tells-on, unfinished-made, told-order}
 use Rattle.smil_top.proofs.run.Run.end.Goals as goal
 
 pub returns-in-Some-clause-answers : goal.returns-in-Some-clause-answers

@@ -3,8 +3,8 @@ use Rattle.smil_top.specs.declared.counts.Counts.{Counts}
 use Rattle.smil_top.specs.Cut.{LoadLines, OrderLines, load}
 use Rattle.smil_top.specs.Transcript.{TranscriptState}
 use Rattle.smil_top.specs.Running.{IsRead, MakesAnswer, Tells, answering}
-use Rattle.smil_top.proofs.Evaluated.{evaluated-more}
-use Rattle.smil_top.proofs.Tells.{told-order, counted_as}
+use Rattle.smil_top.proofs.EvaluationCounts.{evaluated-more}
+use Rattle.smil_top.proofs.TranscriptStep.{told-order, counted_as}
 use Rattle.smil_top.proofs.run.Run.end_load.Given.{Over}
 use Rattle.smil_top.proofs.run.Run.end_load.Goals as goal
 use Rattle.smil_top.proofs.run.Run.end_load.Goals.{After-answer_load-answered}

@@ -1,5 +1,5 @@
 use Rattle.std.proofs.Common.{false, refl, sym, ◌∙◌}
-use Rattle.smil_top.proofs.Tells.{load-of, no_load-of, tells-on}
+use Rattle.smil_top.proofs.TranscriptStep.{load-of, no_load-of, tells-on}
 use Rattle.smil_top.proofs.run.Run.line.Goals as goal
 
 pub returns-in-Some-clause-answers : goal.returns-in-Some-clause-answers

@@ -5,8 +5,8 @@ use Rattle.smil_script.specs.Loads.{ends_load}
 use Rattle.smil_top.specs.declared.run.Run.{Run}
 use Rattle.smil_top.specs.Cut.{NumberedLine, LoadLines, load, with_line}
 use Rattle.smil_top.proofs.CutLines.{cut-blank_node, cut-ends, cut-long_node, cut-node}
-use Rattle.smil_top.proofs.Evaluated.{evaluated-cut}
-use Rattle.smil_top.proofs.Tells.{Shows, shown-line, running-order, running-load, tells-on}
+use Rattle.smil_top.proofs.EvaluationCounts.{evaluated-cut}
+use Rattle.smil_top.proofs.TranscriptStep.{Shows, shown-line, running-order, running-load, tells-on}
 use Rattle.smil_top.proofs.run.Run.line_inside.Goals as goal
 use Rattle.smil_top.proofs.run.Run.line_inside.Goals.{in_default-via-in-Some-2+else-is_blank, in_default-via-in_default}
 

@@ -9,8 +9,8 @@ use Rattle.smil_top.specs.Cut.{OrderLines, NumberedLine, LoadLines, single, with
 use Rattle.smil_top.specs.Evaluations.{number_of}
 use Rattle.smil_top.specs.Running.{AnswersOrders, IsRead}
 use Rattle.smil_top.proofs.CutLines.{cut-blank, cut-long, cut-opens, cut-single}
-use Rattle.smil_top.proofs.Evaluated.{counted-fault, evaluated-cut, evaluated-more}
-use Rattle.smil_top.proofs.Tells.{Shows, shown-line, long-made, nothing-told, told-order, running-order, running-load, tells-on}
+use Rattle.smil_top.proofs.EvaluationCounts.{counted-fault, evaluated-cut, evaluated-more}
+use Rattle.smil_top.proofs.TranscriptStep.{Shows, shown-line, long-made, nothing-told, told-order, running-order, running-load, tells-on}
 use Rattle.smil_top.proofs.run.Run.line_outside.Goals as goal
 
 pub returns-in-None-clause-answers : goal.returns-in-None-clause-answers

@@ -2,8 +2,8 @@ use Rattle.std.proofs.Common.{◌-◌, Err, sym, subst}
 use Rattle.std.proofs.lemmas.Result.{err_from_is_err_and}
 use Rattle.smil_top.specs.Evaluations.{line_number}
 use Rattle.smil_top.specs.Running.{Makes, line_by}
-use Rattle.smil_top.proofs.Evaluated.{counted-line, counted-refused}
-use Rattle.smil_top.proofs.Makings.{unmade-line}
+use Rattle.smil_top.proofs.EvaluationCounts.{counted-line, counted-refused}
+use Rattle.smil_top.proofs.AnswersMade.{unmade-line}
 use Rattle.smil_top.proofs.ShortNames.{read-short}
 use Rattle.smil_top.proofs.session.Session.answer_line.Goals as goal
 

@@ -3,7 +3,7 @@ use Rattle.smil_top.specs.Evaluations.{said_number}
 use Rattle.smil_top.specs.declared.answer.Answer.{Answer as AnswerText}
 use Rattle.smil_top.specs.Answers.{preferring, preferred_line}
 use Rattle.smil_top.specs.Running.{IsCounted, Makes, single_by, text_of}
-use Rattle.smil_top.proofs.Makings.{made-preferred}
+use Rattle.smil_top.proofs.AnswersMade.{made-preferred}
 use Rattle.smil_top.proofs.session.Session.answer_read.Goals as goal
 
 pub returns-in-To-clause-evaluated : goal.returns-in-To-clause-evaluated

@@ -8,8 +8,8 @@ use Rattle.smil_top.specs.declared.answer.Answer.{Answer as AnswerText}
 use Rattle.smil_top.specs.Answers.{ordered_within}
 use Rattle.smil_top.specs.Evaluations.{ordered_number}
 use Rattle.smil_top.specs.Running.{IsCounted, Makes}
-use Rattle.smil_top.proofs.Evaluated.{counted-ordered, counted-unordered}
-use Rattle.smil_top.proofs.Makings.{in_house, made-ordered, unmade-ordered}
+use Rattle.smil_top.proofs.EvaluationCounts.{counted-ordered, counted-unordered}
+use Rattle.smil_top.proofs.AnswersMade.{in_house, made-ordered, unmade-ordered}
 use Rattle.smil_top.proofs.session.Session.answer_to.Goals as goal
 
 pub returns-clause-answer : goal.returns-clause-answer

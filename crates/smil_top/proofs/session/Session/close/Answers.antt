@@ -5,7 +5,7 @@ use Rattle.smil_model.specs.shown.Lines.{closed_line}
 use Rattle.smil_top.specs.declared.answer.Answer.{Answer as AnswerText}
 use Rattle.smil_top.specs.Answers.{close_answer}
 use Rattle.smil_top.specs.Running.{Makes}
-use Rattle.smil_top.proofs.Makings.{in_house, made-closed, unmade-closed}
+use Rattle.smil_top.proofs.AnswersMade.{in_house, made-closed, unmade-closed}
 use Rattle.smil_top.proofs.session.Session.close.Goals as goal
 
 pub returns-clause-answer : goal.returns-clause-answer

@@ -9,8 +9,8 @@ use Rattle.smil_top.specs.declared.answer.Answer.{Answer as AnswerText}
 use Rattle.smil_top.specs.Answers.{loaded_within}
 use Rattle.smil_top.specs.Evaluations.{loaded_number}
 use Rattle.smil_top.specs.Running.{IsCounted, Makes, given_of}
-use Rattle.smil_top.proofs.Evaluated.{counted-loaded, counted-refused, counted-unloaded}
-use Rattle.smil_top.proofs.Makings.{in_house, made-loaded, refusal-of, unmade-loaded, unloaded}
+use Rattle.smil_top.proofs.EvaluationCounts.{counted-loaded, counted-refused, counted-unloaded}
+use Rattle.smil_top.proofs.AnswersMade.{in_house, made-loaded, refusal-of, unmade-loaded, unloaded}
 use Rattle.smil_top.proofs.session.Session.open.Goals as goal
 
 pub returns-in_err-may_load-clause-answer : goal.returns-in_err-may_load-clause-answer

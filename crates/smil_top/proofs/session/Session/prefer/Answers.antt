@@ -1,7 +1,7 @@
 use Rattle.std.proofs.Common.{true, subst}
 use Rattle.smil_switch.specs.Preferences.{with_preference}
 use Rattle.smil_switch.specs.Gives.{Prefers}
-use Rattle.smil_top.proofs.Makings.{preferred}
+use Rattle.smil_top.proofs.AnswersMade.{preferred}
 use Rattle.smil_top.proofs.session.Session.prefer.Goals as goal
 
 pub returns-then-branch-clause-preferring : goal.returns-then-branch-clause-preferring

@@ -1,7 +1,7 @@
 use Rattle.std.proofs.Common.{ap, ◌∙◌, cond, None}
 use Rattle.std.specs.Str.{bytes_eq}
 use Rattle.std.specs.Map.{lookup}
-use Rattle.smil_tree.proofs.Tables.{updated}
+use Rattle.smil_tree.proofs.TextTables.{updated}
 use Rattle.smil_tree.proofs.ids.Ids.forget.Goals as goal
 
 pub returns : goal.returns

@@ -1,7 +1,7 @@
 use Rattle.std.proofs.Common.{sym, ap, ◌∙◌}
 use Rattle.std.specs.Str.{bytes_eq}
 use Rattle.std.specs.Map.{lookup}
-use Rattle.smil_tree.proofs.Tables.{lookup-pairs}
+use Rattle.smil_tree.proofs.TextTables.{lookup-pairs}
 use Rattle.smil_tree.proofs.ids.Ids.get.Goals as goal
 
 pub returns : goal.returns

@@ -1,7 +1,7 @@
 use Rattle.std.proofs.Common.{ap, ◌∙◌, cond, Some}
 use Rattle.std.specs.Str.{bytes_eq}
 use Rattle.std.specs.Map.{lookup}
-use Rattle.smil_tree.proofs.Tables.{updated, pairs}
+use Rattle.smil_tree.proofs.TextTables.{updated, pairs}
 use Rattle.smil_tree.proofs.ids.Ids.note.Goals as goal
 
 pub returns-clause-ok : goal.returns-clause-ok

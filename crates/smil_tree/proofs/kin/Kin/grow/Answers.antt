@@ -2,7 +2,7 @@ use Rattle.std.proofs.Common.{sym, ap, ◌+◌, ◌∙◌, ◌≡◌, Some}
 use Rattle.std.specs.Option.{option_copied}
 use Rattle.smil_model.specs.declared.document.Node.{Node}
 use Rattle.smil_model.specs.document.Document.{is_time_child, time_parent, serial_of}
-use Rattle.smil_laws.proofs.Lineages.{same_eqb}
+use Rattle.smil_laws.proofs.LineageParents.{same_eqb}
 use Rattle.smil_tree.specs.Places.{cut}
 use Rattle.smil_tree.proofs.KinTables.{is_child, in_err, same_lists, kin_of, lists_of}
 use Rattle.smil_tree.proofs.KinTrees.{grown_lists, grown_own}

@@ -1,7 +1,7 @@
 use Rattle.std.proofs.Common.{sym, ap, subst, ◌∙◌}
 use Rattle.std.specs.Option.{option_copied}
 use Rattle.smil_tree.specs.Outline.{IsAbove, IsRowOf}
-use Rattle.smil_tree.proofs.Outlines.{no_parent, parent_told, there, lent_there}
+use Rattle.smil_tree.proofs.OutlineRows.{no_parent, parent_told, there, lent_there}
 use Rattle.smil_tree.proofs.outline.Outline.above.Goals as goal
 
 pub returns-in_err-place : goal.returns-in_err-place

@@ -3,9 +3,9 @@ use Rattle.std.specs.Result.{is_ok}
 use Rattle.std.proofs.lemmas.List.{length-append}
 use Rattle.std.proofs.lemmas.Option.{slice_get_within}
 use Rattle.smil_model.specs.document.Document.{serials, time_children, elements, is_element}
-use Rattle.smil_laws.proofs.Numbered.{ordered}
+use Rattle.smil_laws.proofs.NumberedTrees.{ordered}
 use Rattle.smil_tree.proofs.KinLists.{serials-append}
-use Rattle.smil_tree.proofs.Outlines.{few_children, few_elements, children_more, elements_more, serial_if, RowsAre, rows_more}
+use Rattle.smil_tree.proofs.OutlineRows.{few_children, few_elements, children_more, elements_more, serial_if, RowsAre, rows_more}
 use Rattle.smil_tree.proofs.outline.Outline.add.Goals as goal
 
 pub unwrap-requires : goal.unwrap-requires

@@ -1,5 +1,5 @@
 use Rattle.std.proofs.Common.{ap, ◌∙◌, arith, length}
-use Rattle.smil_tree.proofs.Outlines.{outline_copied}
+use Rattle.smil_tree.proofs.OutlineRows.{outline_copied}
 use Rattle.smil_tree.proofs.outline.Outline.copy.Goals as goal
 
 pub returns : goal.returns

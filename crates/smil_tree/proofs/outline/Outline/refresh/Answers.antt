@@ -2,7 +2,7 @@ use Rattle.std.proofs.Common.{◌∷◌, [], ◌+◌, sym, ap, subst, ◌∙◌,
 use Rattle.std.specs.Prelude.{slice_get}
 use Rattle.std.proofs.lemmas.List.{length-append}
 use Rattle.smil_tree.specs.Outline.{BeginsOutline}
-use Rattle.smil_tree.proofs.Walks.{at_place, walk_begun, walk_on, walk_over}
+use Rattle.smil_tree.proofs.NodeWalks.{at_place, walk_begun, walk_on, walk_over}
 use Rattle.smil_tree.proofs.outline.Outline.refresh.Goals as goal
 
 pub loop-node-init : goal.loop-node-init

@@ -1,6 +1,6 @@
 use Rattle.std.proofs.Common.{length}
 use Rattle.smil_tree.specs.Outline.{BeginsOutline}
-use Rattle.smil_tree.proofs.Walks.{Walked}
+use Rattle.smil_tree.proofs.NodeWalks.{Walked}
 use Rattle.smil_tree.proofs.outline.Outline.refresh.Given as goal
 
 -- the rows are those of the nodes so far

@@ -1,5 +1,5 @@
 use Rattle.std.proofs.Common.{refl, arith}
-use Rattle.smil_tree.proofs.Outlines.{outline_stays}
+use Rattle.smil_tree.proofs.OutlineRows.{outline_stays}
 use Rattle.smil_tree.proofs.outline.Outline.reserve.Goals as goal
 
 pub returns-in_err-reserve-clause-same : goal.returns-in_err-reserve-clause-same

@@ -1,10 +1,10 @@
 use Rattle.std.proofs.Common.{refl, sym, ap, ◌∙◌, ◌+◌, length, take, arith}
-use Rattle.smil_laws.proofs.Ranks.{serials_length}
+use Rattle.smil_laws.proofs.DependencyRanks.{serials_length}
 use Rattle.std.specs.Prelude.{is_some, unwrap_or}
 use Rattle.smil_model.specs.document.Document.{elements}
 use Rattle.smil_tree.specs.Inherited.{own_restart, own_fill}
-use Rattle.smil_tree.proofs.Inherited.{restart_inherits, fill_inherits}
-use Rattle.smil_tree.proofs.Outlines.{known_at, few_past, few_before, few_at, children_more, parent_is, default_restart_is, default_fill_is}
+use Rattle.smil_tree.proofs.DefaultsInherited.{restart_inherits, fill_inherits}
+use Rattle.smil_tree.proofs.OutlineRows.{known_at, few_past, few_before, few_at, children_more, parent_is, default_restart_is, default_fill_is}
 use Rattle.smil_tree.proofs.outline.Outline.row_of.Goals as goal
 
 pub end_of-requires-clause-known : goal.end_of-requires-clause-known

@@ -1,7 +1,7 @@
 use Rattle.std.proofs.Common.{ap, ◌∙◌, ◌+◌, arith}
 use Rattle.std.specs.Prelude.{slice_range}
 use Rattle.smil_model.specs.document.Document.{Document}
-use Rattle.smil_tree.proofs.Kids.{span_fits}
+use Rattle.smil_tree.proofs.ChildSpans.{span_fits}
 use Rattle.smil_tree.proofs.tree.Tree.below.Goals as goal
 
 pub overflow_add-start : goal.overflow_add-start

@@ -3,11 +3,11 @@ use Rattle.std.specs.Prelude.{◌==◌, is_some}
 use Rattle.std.specs.Option.{option_copied}
 use Rattle.smil_model.specs.document.Document.{node_at}
 use Rattle.smil_model.specs.document.Edits.{node_removed}
-use Rattle.smil_laws.proofs.Numbered.{ordered}
+use Rattle.smil_laws.proofs.NumberedTrees.{ordered}
 use Rattle.smil_tree.specs.Outcomes.{is_root}
-use Rattle.smil_tree.proofs.Kids.{place_told, has_place, end_within}
-use Rattle.smil_tree.proofs.Making.{once_of}
-use Rattle.smil_tree.proofs.Removed.{keeps_removed, removed_is, subtree, time_parent_told}
+use Rattle.smil_tree.proofs.ChildSpans.{place_told, has_place, end_within}
+use Rattle.smil_tree.proofs.TreeMade.{once_of}
+use Rattle.smil_tree.proofs.NodeRemoved.{keeps_removed, removed_is, subtree, time_parent_told}
 use Rattle.smil_tree.proofs.tree.Tree.cut_out.Goals as goal
 use Rattle.smil_tree.proofs.tree.Tree.cut_out.Goals.{After-end_of-end}
 

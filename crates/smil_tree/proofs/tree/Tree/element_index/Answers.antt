@@ -4,7 +4,7 @@ use Rattle.std.specs.List.{position}
 use Rattle.std.specs.Option.{option_copied}
 use Rattle.smil_model.specs.declared.document.Node.{Node}
 use Rattle.smil_model.specs.document.Document.{elements}
-use Rattle.smil_tree.proofs.Outlines.{found_told, no_element, element_told, class_told, lent_there}
+use Rattle.smil_tree.proofs.OutlineRows.{found_told, no_element, element_told, class_told, lent_there}
 use Rattle.smil_tree.proofs.tree.Tree.element_index.Goals as goal
 
 pub returns-in_err-place : goal.returns-in_err-place

@@ -1,7 +1,7 @@
 use Rattle.std.proofs.Common.{Some, sym, ap, ◌∙◌}
 use Rattle.std.specs.Prelude.{option_map}
 use Rattle.smil_model.specs.document.Defaults.{fill_of}
-use Rattle.smil_tree.proofs.Outlines.{fill_never}
+use Rattle.smil_tree.proofs.OutlineRows.{fill_never}
 use Rattle.smil_tree.proofs.tree.Tree.fill_of.Goals as goal
 
 pub returns-clause-fill : goal.returns-clause-fill

@@ -4,8 +4,8 @@ use Rattle.smil_model.specs.document.Document.{Document}
 use Rattle.smil_model.specs.document.Edits.{children, child_place}
 use Rattle.smil_model.specs.document.Valid.{IsValid}
 use Rattle.smil_tree.specs.Outcomes.{IsFaultOf, insert_outcome}
-use Rattle.smil_tree.proofs.Refusals.{few_among, fault_of, after, place_within, long_after, more_after, valid_after, outcome_is}
-use Rattle.smil_tree.proofs.Results.{on_err}
+use Rattle.smil_tree.proofs.InsertRefusals.{few_among, fault_of, after, place_within, long_after, more_after, valid_after, outcome_is}
+use Rattle.smil_tree.proofs.ResultClauses.{on_err}
 use Rattle.smil_tree.proofs.tree.Tree.insert.Goals as goal
 
 pub has_room-requires : goal.has_room-requires

@@ -1,8 +1,8 @@
 use Rattle.std.proofs.Common.{sym, ap, ◌∙◌, Some}
 use Rattle.smil_model.specs.document.Valid.{is_id_taken}
 use Rattle.smil_tree.specs.TreeFields.{is_other}
-use Rattle.smil_tree.proofs.Making.{once_of}
-use Rattle.smil_tree.proofs.Owners.{taken}
+use Rattle.smil_tree.proofs.TreeMade.{once_of}
+use Rattle.smil_tree.proofs.IdOwners.{taken}
 use Rattle.smil_tree.proofs.tree.Tree.knows_id.Goals as goal
 
 pub returns-in-Some : goal.returns-in-Some

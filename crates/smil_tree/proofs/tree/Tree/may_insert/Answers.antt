@@ -1,9 +1,9 @@
 use Rattle.std.proofs.Common.{sym, ap, ◌∙◌, Ok, Err, cond}
 use Rattle.std.specs.Option.{option_copied}
-use Rattle.smil_laws.proofs.Numbered.{ordered}
+use Rattle.smil_laws.proofs.NumberedTrees.{ordered}
 use Rattle.smil_tree.specs.declared.fault.TreeFault.TheVariants.{BadPlace}
 use Rattle.smil_tree.specs.Outcomes.{place_outcome}
-use Rattle.smil_tree.proofs.Placings.{too_deep, placed, may_place_told, first_known}
+use Rattle.smil_tree.proofs.InsertPlaces.{too_deep, placed, may_place_told, first_known}
 use Rattle.smil_tree.proofs.tree.Tree.may_insert.Goals as goal
 
 pub height-requires : goal.height-requires

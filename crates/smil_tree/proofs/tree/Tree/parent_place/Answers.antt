@@ -1,9 +1,9 @@
 use Rattle.std.proofs.Common.{sym, ap, ◌∙◌}
 use Rattle.std.specs.Prelude.{option_map}
-use Rattle.smil_laws.proofs.Rounds.{find-serial}
+use Rattle.smil_laws.proofs.RoundsRest.{find-serial}
 use Rattle.smil_tree.specs.Outline.{parent_place}
 use Rattle.smil_tree.specs.declared.outline.Placed.{Placed}
-use Rattle.smil_tree.proofs.Outlines.{parent_placed}
+use Rattle.smil_tree.proofs.OutlineRows.{parent_placed}
 use Rattle.smil_tree.proofs.tree.Tree.parent_place.Goals as goal
 
 pub returns-in-Some : goal.returns-in-Some

@@ -2,12 +2,12 @@ use Rattle.std.proofs.Common.{sym, ap, subst, ◌∙◌, suc, length, insert, ar
 use Rattle.smil_model.specs.document.Document.{Document}
 use Rattle.smil_model.specs.document.Valid.{IsValid}
 use Rattle.smil_laws.specs.Edited.{IsOrdered}
-use Rattle.smil_laws.proofs.Numbered.{ordered}
+use Rattle.smil_laws.proofs.NumberedTrees.{ordered}
 use Rattle.smil_tree.specs.TreeFields.{IsTableOf}
 use Rattle.smil_tree.specs.Kin.{IsKinOf}
 use Rattle.smil_tree.specs.Outline.{IsOutlineOf}
-use Rattle.smil_tree.proofs.Making.{once_of}
-use Rattle.smil_tree.proofs.Putting.{next_fresh, back, leaf, keeps_back, keeps_put}
+use Rattle.smil_tree.proofs.TreeMade.{once_of}
+use Rattle.smil_tree.proofs.NodePut.{next_fresh, back, leaf, keeps_back, keeps_put}
 use Rattle.smil_tree.proofs.tree.Tree.put.Goals as goal
 
 pub insert-requires-clause-fresh : goal.insert-requires-clause-fresh

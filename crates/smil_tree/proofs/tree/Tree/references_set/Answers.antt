@@ -3,7 +3,7 @@ use Rattle.std.specs.Option.{option_copied}
 use Rattle.smil_model.specs.document.Edits.{changed_at, with_attr}
 use Rattle.smil_model.specs.document.Valid.{references}
 use Rattle.smil_tree.specs.Outcomes.{may_take}
-use Rattle.smil_tree.proofs.Changed.{references_own, references_then, taken_few}
+use Rattle.smil_tree.proofs.AttributesChanged.{references_own, references_then, taken_few}
 use Rattle.smil_tree.proofs.tree.Tree.references_set.Goals as goal
 
 pub references_in-requires : goal.references_in-requires

@@ -2,7 +2,7 @@ use Rattle.std.proofs.Common.{sym, ap, ◌∙◌, arith}
 use Rattle.std.specs.Option.{option_copied}
 use Rattle.smil_model.specs.document.Edits.{changed_at, without_attr}
 use Rattle.smil_model.specs.document.Valid.{references}
-use Rattle.smil_tree.proofs.Changed.{references_own, references_then}
+use Rattle.smil_tree.proofs.AttributesChanged.{references_own, references_then}
 use Rattle.smil_tree.proofs.tree.Tree.references_unset.Goals as goal
 
 pub references_in-requires : goal.references_in-requires

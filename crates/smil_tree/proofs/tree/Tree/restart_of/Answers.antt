@@ -1,7 +1,7 @@
 use Rattle.std.proofs.Common.{Some, sym, ap, ◌∙◌}
 use Rattle.std.specs.Prelude.{option_map}
 use Rattle.smil_model.specs.document.Defaults.{restart_of}
-use Rattle.smil_tree.proofs.Outlines.{restart_never}
+use Rattle.smil_tree.proofs.OutlineRows.{restart_never}
 use Rattle.smil_tree.proofs.tree.Tree.restart_of.Goals as goal
 
 pub returns-clause-restart : goal.returns-clause-restart

@@ -5,8 +5,8 @@ use Rattle.smil_model.specs.declared.document.Node.{Node}
 use Rattle.smil_model.specs.document.Document.{Document, node_at}
 use Rattle.smil_model.specs.document.Edits.{place_in}
 use Rattle.smil_tree.specs.Outline.{IsRowOf}
-use Rattle.smil_tree.proofs.Kids.{has_place}
-use Rattle.smil_tree.proofs.Outlines.{found_told, row_is, lent_there}
+use Rattle.smil_tree.proofs.ChildSpans.{has_place}
+use Rattle.smil_tree.proofs.OutlineRows.{found_told, row_is, lent_there}
 use Rattle.smil_tree.proofs.tree.Tree.row.Goals as goal
 
 pub unwrap-place-requires : goal.unwrap-place-requires

@@ -3,9 +3,9 @@ use Rattle.smil_model.specs.document.Edits.{changed_at, with_attr}
 use Rattle.smil_model.specs.document.Valid.{references, is_id_taken}
 use Rattle.smil_model.specs.shown.Orders.{id_in}
 use Rattle.smil_tree.specs.Outcomes.{may_take}
-use Rattle.smil_tree.proofs.Changed.{once_set, taker_known}
-use Rattle.smil_tree.proofs.Keeping.{keeps_set}
-use Rattle.smil_tree.proofs.Making.{once_of}
+use Rattle.smil_tree.proofs.AttributesChanged.{once_set, taker_known}
+use Rattle.smil_tree.proofs.AttributeEdits.{keeps_set}
+use Rattle.smil_tree.proofs.TreeMade.{once_of}
 use Rattle.smil_tree.proofs.tree.Tree.set.Goals as goal
 
 pub rename-requires-clause-once : goal.rename-requires-clause-once

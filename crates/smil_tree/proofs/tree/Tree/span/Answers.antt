@@ -3,10 +3,10 @@ use Rattle.std.specs.Prelude.{is_some, slice_range}
 use Rattle.smil_model.specs.declared.document.Node.{Node}
 use Rattle.smil_model.specs.document.Document.{Document, node_at, descendants, is_within}
 use Rattle.smil_model.specs.document.Edits.{place_in, child_place}
-use Rattle.smil_laws.proofs.Rounds.{find-serial}
+use Rattle.smil_laws.proofs.RoundsRest.{find-serial}
 use Rattle.smil_tree.specs.declared.outline.OutlineRow.{OutlineRow}
 use Rattle.smil_tree.specs.Outline.{IsRowOf}
-use Rattle.smil_tree.proofs.Kids.{has_place, place_told, span_told, below_told}
+use Rattle.smil_tree.proofs.ChildSpans.{has_place, place_told, span_told, below_told}
 use Rattle.smil_tree.proofs.tree.Tree.span.Goals as goal
 
 pub unwrap-start-requires : goal.unwrap-start-requires

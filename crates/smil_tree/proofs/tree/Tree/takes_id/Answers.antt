@@ -3,8 +3,8 @@ use Rattle.smil_model.specs.declared.document.Attr.TheVariants as attr
 use Rattle.smil_model.specs.document.Valid.{is_id_taken}
 use Rattle.smil_model.specs.shown.Orders.{id_in}
 use Rattle.smil_tree.specs.TreeFields.{is_other}
-use Rattle.smil_tree.proofs.Making.{once_of}
-use Rattle.smil_tree.proofs.Owners.{taken}
+use Rattle.smil_tree.proofs.TreeMade.{once_of}
+use Rattle.smil_tree.proofs.IdOwners.{taken}
 use Rattle.smil_tree.proofs.tree.Tree.takes_id.Goals as goal
 
 pub returns-in-Id : goal.returns-in-Id

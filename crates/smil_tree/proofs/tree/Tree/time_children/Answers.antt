@@ -2,7 +2,7 @@ use Rattle.std.proofs.Common.{◌<◌, sym, ap, subst, ◌∙◌, length}
 use Rattle.std.specs.Prelude.{slice_get}
 use Rattle.std.proofs.lemmas.Option.{slice_get_within}
 use Rattle.smil_model.specs.document.Document.{Document, serials, time_children}
-use Rattle.smil_tree.proofs.Outlines.{absent, found_told, no_time_children, some_same}
+use Rattle.smil_tree.proofs.OutlineRows.{absent, found_told, no_time_children, some_same}
 use Rattle.smil_tree.proofs.tree.Tree.time_children.Goals as goal
 
 pub time_children_at-requires : goal.time_children_at-requires

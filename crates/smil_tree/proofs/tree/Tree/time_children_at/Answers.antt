@@ -3,7 +3,7 @@ use Rattle.std.specs.Prelude.{slice_get}
 use Rattle.std.specs.Option.{option_copied}
 use Rattle.smil_model.specs.declared.document.Node.{Node}
 use Rattle.smil_model.specs.document.Document.{Document, serials, time_children}
-use Rattle.smil_tree.proofs.Outlines.{there}
+use Rattle.smil_tree.proofs.OutlineRows.{there}
 use Rattle.smil_tree.proofs.tree.Tree.time_children_at.Goals as goal
 
 pub time_children-requires-clause-in_order : goal.time_children-requires-clause-in_order

@@ -1,9 +1,9 @@
 use Rattle.std.proofs.Common.{sym, ap, ◌∙◌}
 use Rattle.std.specs.Prelude.{option_map}
 use Rattle.smil_model.specs.document.Document.{time_parent, serial_of}
-use Rattle.smil_laws.proofs.Rounds.{find-serial}
+use Rattle.smil_laws.proofs.RoundsRest.{find-serial}
 use Rattle.smil_tree.specs.declared.outline.Placed.{Placed}
-use Rattle.smil_tree.proofs.Outlines.{parent_serial}
+use Rattle.smil_tree.proofs.OutlineRows.{parent_serial}
 use Rattle.smil_tree.proofs.tree.Tree.time_parent.Goals as goal
 
 pub returns-in-Some : goal.returns-in-Some

@@ -3,8 +3,8 @@ use Rattle.std.specs.Prelude.{is_some}
 use Rattle.smil_model.specs.document.Document.{node_at}
 use Rattle.smil_model.specs.document.Edits.{changed_at, without_attr}
 use Rattle.smil_model.specs.document.Valid.{references}
-use Rattle.smil_tree.proofs.Keeping.{keeps_unset}
-use Rattle.smil_tree.proofs.Making.{once_of}
+use Rattle.smil_tree.proofs.AttributeEdits.{keeps_unset}
+use Rattle.smil_tree.proofs.TreeMade.{once_of}
 use Rattle.smil_tree.proofs.tree.Tree.unset.Goals as goal
 
 pub unname-requires-clause-once : goal.unname-requires-clause-once

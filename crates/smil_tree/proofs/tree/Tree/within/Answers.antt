@@ -1,7 +1,7 @@
 use Rattle.std.proofs.Common.{ap, ◌∙◌, arith}
 use Rattle.std.specs.Prelude.{slice_range}
 use Rattle.smil_model.specs.document.Document.{Document}
-use Rattle.smil_tree.proofs.Kids.{span_fits}
+use Rattle.smil_tree.proofs.ChildSpans.{span_fits}
 use Rattle.smil_tree.proofs.tree.Tree.within.Goals as goal
 
 pub between-requires : goal.between-requires

@@ -4,7 +4,7 @@ use Rattle.std.specs.Option.{option_copied}
 use Rattle.smil_model.specs.declared.document.Attr.TheVariants as attr
 use Rattle.smil_model.specs.document.Document.{node_at}
 use Rattle.smil_model.specs.document.Edits.{with_attr}
-use Rattle.smil_tree.proofs.Changed.{some_node, renamed, owner_stays, with_id_kept}
+use Rattle.smil_tree.proofs.AttributesChanged.{some_node, renamed, owner_stays, with_id_kept}
 use Rattle.smil_tree.proofs.tree.edits.rename.Goals as goal
 
 pub returns-in-Id-clause-ok : goal.returns-in-Id-clause-ok

@@ -2,7 +2,7 @@ use Rattle.std.proofs.Common.{◌≡◌, sym, ap, ◌∙◌, Some}
 use Rattle.std.specs.Option.{option_copied}
 use Rattle.smil_model.specs.document.Document.{node_at}
 use Rattle.smil_model.specs.document.Edits.{without_attr}
-use Rattle.smil_tree.proofs.Changed.{some_node, unnamed, owner_stays, without_id_kept}
+use Rattle.smil_tree.proofs.AttributesChanged.{some_node, unnamed, owner_stays, without_id_kept}
 use Rattle.smil_tree.proofs.tree.edits.unname.Goals as goal
 
 pub returns-in-Id : goal.returns-in-Id

@@ -1,7 +1,7 @@
 use Rattle.std.proofs.Common.{sym, ap, ◌∙◌, arith}
 use Rattle.std.specs.Prelude.{find}
 use Rattle.smil_model.specs.document.Document.{is_element, serial_of}
-use Rattle.smil_tree.proofs.Families.{chain_longer, no_chain, none_lent, nearest_here, nearest_above}
+use Rattle.smil_tree.proofs.NodeFamilies.{chain_longer, no_chain, none_lent, nearest_here, nearest_above}
 use Rattle.smil_tree.proofs.tree.family.element_from.Goals as goal
 
 pub returns-then-is_element : goal.returns-then-is_element

@@ -1,5 +1,5 @@
 use Rattle.std.proofs.Common.{length, sym, ap, arith}
-use Rattle.smil_tree.proofs.Families.{chain_longer, no_chain}
+use Rattle.smil_tree.proofs.NodeFamilies.{chain_longer, no_chain}
 use Rattle.smil_tree.proofs.tree.family.height.Goals as goal
 
 pub returns-in-None : goal.returns-in-None

@@ -3,8 +3,8 @@ use Rattle.std.specs.Prelude.{slice_get, find}
 use Rattle.std.specs.Option.{option_copied}
 use Rattle.smil_model.specs.document.Document.{is_element, serial_of}
 use Rattle.smil_tree.specs.TreeFields.{bears}
-use Rattle.smil_tree.proofs.Cuts.{owner_put, owner_back}
-use Rattle.smil_tree.proofs.Families.{above_of, node_of_place}
+use Rattle.smil_tree.proofs.ListCuts.{owner_put, owner_back}
+use Rattle.smil_tree.proofs.NodeFamilies.{above_of, node_of_place}
 use Rattle.smil_tree.proofs.tree.inserting.take_note.Goals as goal
 
 pub grow-requires-clause-leaf : goal.grow-requires-clause-leaf

@@ -1,5 +1,5 @@
 use Rattle.std.proofs.Common.{◌∙◌, take, drop}
-use Rattle.smil_tree.proofs.Cuts.{none_forgotten, forgotten_more, all_forgotten}
+use Rattle.smil_tree.proofs.ListCuts.{none_forgotten, forgotten_more, all_forgotten}
 use Rattle.smil_tree.proofs.tree.removing.forget_nodes.Goals as goal
 
 pub loop-node-init : goal.loop-node-init

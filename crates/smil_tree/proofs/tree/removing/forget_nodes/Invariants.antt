@@ -1,5 +1,5 @@
 use Rattle.std.proofs.Common.{take, drop}
-use Rattle.smil_tree.proofs.Cuts.{IsTableLeft}
+use Rattle.smil_tree.proofs.ListCuts.{IsTableLeft}
 use Rattle.smil_tree.proofs.tree.removing.forget_nodes.Given as goal
 
 abbrev pub invariant-loop-node : goal.invariant-loop-node

@@ -1,6 +1,6 @@
 use Rattle.std.proofs.Common.{◌∙◌, ap, arith}
 use Rattle.smil_model.specs.document.Valid.{references}
-use Rattle.smil_tree.proofs.Cuts.{references_parts, references_first}
+use Rattle.smil_tree.proofs.ListCuts.{references_parts, references_first}
 use Rattle.smil_tree.proofs.tree.removing.references_between.Goals as goal
 
 pub loop-node-init : goal.loop-node-init

@@ -1,7 +1,7 @@
 use Rattle.std.proofs.Common.{◌+◌, ◌≤◌, sym, ap, ◌∙◌, length, arith}
 use Rattle.std.specs.Prelude.{is_some}
 use Rattle.std.proofs.lemmas.Bool.{ltb-false}
-use Rattle.smil_tree.proofs.Kids.{last_told, alone_told, place_told, place_within, has_place}
+use Rattle.smil_tree.proofs.ChildSpans.{last_told, alone_told, place_told, place_within, has_place}
 use Rattle.smil_tree.proofs.tree.spans.end_of.Goals as goal
 
 pub loop-last-smaller : goal.loop-last-smaller

@@ -2,7 +2,7 @@ use Rattle.std.proofs.Common.{◌-◌, refl, sym, ap, ◌∙◌, length}
 use Rattle.std.specs.Prelude.{is_some}
 use Rattle.std.proofs.lemmas.Option.{slice_get_read, slice_get_past}
 use Rattle.smil_model.specs.document.Edits.{place_in, child_place}
-use Rattle.smil_tree.proofs.Kids.{child_told, no_child_told, place_told, has_place}
+use Rattle.smil_tree.proofs.ChildSpans.{child_told, no_child_told, place_told, has_place}
 use Rattle.smil_tree.proofs.tree.spans.position_of_child.Goals as goal
 
 pub unwrap-requires : goal.unwrap-requires

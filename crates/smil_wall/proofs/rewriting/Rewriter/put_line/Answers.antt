@@ -1,5 +1,5 @@
 use Rattle.std.proofs.Common.{refl, ◌∙◌, arith}
-use Rattle.smil_wall.proofs.Rewritten.{parts_on}
+use Rattle.smil_wall.proofs.RewrittenLines.{parts_on}
 use Rattle.smil_wall.proofs.rewriting.Rewriter.put_line.Goals as goal
 
 pub parts-preserved : goal.parts-preserved

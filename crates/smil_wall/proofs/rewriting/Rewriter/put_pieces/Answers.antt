@@ -1,5 +1,5 @@
 use Rattle.std.proofs.Common.{refl, ◌∙◌, arith}
-use Rattle.smil_wall.proofs.Rewritten.{pieces_on}
+use Rattle.smil_wall.proofs.RewrittenLines.{pieces_on}
 use Rattle.smil_wall.proofs.rewriting.Rewriter.put_pieces.Goals as goal
 
 pub pieces-preserved : goal.pieces-preserved

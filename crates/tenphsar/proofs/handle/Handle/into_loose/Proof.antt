@@ -24,7 +24,7 @@ use denote.Triple.Entry.{alive}
 use denote.Triple.Walked.{Stays, stay_dropped, walk_of, Goes-dropped}
 use Rattle.std.proofs.raw_atomic.Walks.{proved_at, leaves}
 use Rattle.std_alloc.proofs.ResultValues.{and_tt}
-use Rattle.tenphsar.proofs.Values.{Bare, global_val, global_told, handle_val, handle_typed, ptr_typed}
+use Rattle.tenphsar.proofs.HandleValues.{Bare, global_val, global_told, handle_val, handle_typed, ptr_typed}
 use Rattle.tenphsar.proofs.LooseValues.{both}
 use Rattle.tenphsar.specs.Rows.{handle_owns}
 use Rattle.smil_top.specs.declared.held.Held.{Held}

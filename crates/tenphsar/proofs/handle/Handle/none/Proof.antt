@@ -17,7 +17,7 @@ use denote.Steps.{nothing}
 use denote.Triple.Entry.{alive}
 use denote.Triple.Walked.{Stays, walk_of}
 use Rattle.std.proofs.raw_atomic.Walks.{proved_at, leaves}
-use Rattle.tenphsar.proofs.Values.{handle_val, handle_own, handle_made}
+use Rattle.tenphsar.proofs.HandleValues.{handle_val, handle_own, handle_made}
 use Rattle.smil_top.specs.declared.held.Held.{Held}
 use Rattle.tenphsar.specs.contracts.handle.Handle as handle
 use Rattle.tenphsar.specs.contracts.handle.Handle.none.{ended, clauses}

@@ -20,7 +20,7 @@ use denote.Triple.Entry.{alive}
 use denote.Triple.Walked.{Stays, stay_dropped, walk_of, Goes-dropped}
 use Rattle.std.proofs.raw_atomic.Walks.{proved_at, leaves}
 use Rattle.std_alloc.proofs.ResultValues.{and_tt}
-use Rattle.tenphsar.proofs.Values.{Bare, global_val, global_told, handle_val, handle_own, handle_made, ptr_typed}
+use Rattle.tenphsar.proofs.HandleValues.{Bare, global_val, global_told, handle_val, handle_own, handle_made, ptr_typed}
 use Rattle.tenphsar.proofs.LooseValues.{both}
 use Rattle.smil_top.specs.declared.held.Held.{Held}
 use Rattle.smil_top.specs.contracts.held.Held as held

@@ -1,7 +1,7 @@
 use Rattle.std.proofs.Common.{◌∙◌, ap, ◌++◌, List}
 use Rattle.smil_instances.specs.declared.syncbase.Syncbase.{Syncbase}
 use Rattle.smil_past.specs.Syncs.{listed}
-use Rattle.smil_past.proofs.References.{default_told}
+use Rattle.smil_past.proofs.ItemReferences.{default_told}
 use Rattle.smil_past.proofs.syncs.lists.Reader.default_syncs.Goals as goal
 
 pub returns : goal.returns

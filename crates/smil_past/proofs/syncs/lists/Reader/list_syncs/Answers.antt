@@ -4,7 +4,7 @@ use Rattle.std.proofs.lemmas.List.{take_all}
 use Rattle.std.proofs.lemmas.Option.{slice_get-get_or}
 use Rattle.smil_model.specs.declared.document.Item.{Item}
 use Rattle.smil_past.specs.Syncs.{sync_of}
-use Rattle.smil_past.proofs.References.{item_told, list_more}
+use Rattle.smil_past.proofs.ItemReferences.{item_told, list_more}
 use Rattle.smil_past.proofs.syncs.lists.Reader.list_syncs.Goals as goal
 
 pub loop-at-preserved : goal.loop-at-preserved

@@ -1,5 +1,0 @@
-use Rattle.smil_plays.proofs.plays.play.Given as goal
-
--- the ledger is the blank's
-abbrev pub ghosts-played : goal.ghosts-played
-ghosts-played a = record { name = a.blank.name; parts = a.blank.parts }

@@ -1,5 +1,0 @@
-use Rattle.smil_probe.proofs.searches.tell.Given as goal
-
--- the ledger is the blank's
-abbrev pub ghosts-evaluated : goal.ghosts-evaluated
-ghosts-evaluated a = record { name = a.blank.name; parts = a.blank.parts }

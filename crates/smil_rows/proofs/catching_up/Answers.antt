@@ -1,5 +1,0 @@
-use Rattle.std.proofs.Common.{refl}
-use Rattle.smil_rows.proofs.catching_up.Goals as goal
-
-pub returns : goal.returns
-returns c = record { step_1 = refl }

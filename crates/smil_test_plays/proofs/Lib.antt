@@ -1,0 +1,2 @@
+pub mod ReadAttributesFit
+pub mod PlaysLawful

@@ -1,0 +1,2 @@
+pub mod QueueLengths
+pub mod RisingTests

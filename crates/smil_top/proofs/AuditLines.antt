@@ -1,0 +1,116 @@
+-- An audit, line by line, and what it reads and writes.
+use Rattle.std.proofs.Common.{◌≡◌, ◌⊎◌, ℕ, suc, ◌+◌, ◌<◌, ◌≤◌, List, [], ◌∷◌, ◌++◌, length, Option, None, Some, refl, ap, sym, subst, ◌∙◌, arith, inl, inr}
+use Rattle.std.specs.Prelude.{Result, Ok, Err}
+use Rattle.std.specs.Io.KnownBytes.{Appends, Consumes, IsAtEnd}
+use Rattle.std.specs.Str.Lines.{lines}
+use Rattle.std.proofs.KnownBytes.{Appends-nil, Consumes-nil}
+use Rattle.smil_model.specs.declared.order.Refusal.TheVariants.{Memory}
+use Rattle.smil_outside.specs.declared.failed.Failed.{Failed}
+use Rattle.smil_outside.specs.declared.line.TheConstants.{INPUT_BYTES}
+use Rattle.smil_outside.specs.declared.line.Line.TheVariants.{End}
+use Rattle.smil_outside.specs.ReaderState.{ReaderState}
+use Rattle.smil_words.specs.declared.mode.Mode.TheVariants as mode
+use Rattle.smil_top.specs.declared.audit.AuditInput.{AuditInput}
+use Rattle.smil_top.specs.declared.audit.Told.{Told}
+use Rattle.smil_top.specs.declared.fault.Fault.{Fault}
+use Rattle.smil_top.specs.declared.status.Status.{Status}
+use Rattle.smil_top.specs.declared.status.Status.TheVariants as status
+use Rattle.smil_top.specs.Auditing.{ReadsAs, Tells, TellsOf, Verdict, audit_input, audit_lines, audit_of, audit_status_by, audit_text_by, memory_line, no_memory, read_on, told_by, verdict_status}
+use Rattle.smil_top.specs.Serving.{Audited, Audits, IsPart, IsWholeAudit, Serves, StopsAudit, StopsBy}
+use Rattle.smil_top.proofs.ServeStep.{Nexts}
+
+-- ---- lines
+
+one_more : (count : ℕ) (reading : Result AuditInput Fault) (xs : List (List ℕ)) (line : List ℕ) → audit_lines count reading (xs ++ line ∷ []) ≡ read_on (suc (count + length xs)) line (audit_lines count reading xs)
+one_more count reading [] line = let e : count ≡ count + 0 = omega arith in ap (λ n. read_on (suc n) line reading) e
+one_more count reading (x ∷ xs) line =
+    let e : suc count + length xs ≡ count + suc (length xs) = omega arith in
+    one_more (suc count) (read_on (suc count) x reading) xs line
+    ∙ ap (λ n. read_on (suc n) line (audit_lines (suc count) (read_on (suc count) x reading) xs)) e
+
+-- the lines with one more
+pub more_read : (answered : List (List ℕ)) (line : List ℕ) (number : ℕ) → number ≡ suc (length answered) → audit_input (answered ++ line ∷ []) ≡ read_on number line (audit_input answered)
+more_read answered line number is =
+    let e : suc (0 + length answered) ≡ number = omega (arith, is) in
+    one_more 0 (audit_input []) answered line ∙ ap (λ n. read_on n line (audit_input answered)) e
+
+-- the end of the input is no line
+pub end-number : (old new : ReaderState) (rest after : Option (List ℕ)) → Nexts old new End rest after → new.number ≡ old.number
+end-number old new rest after (inl (is_open, reads)) = omega (arith, reads.numbered)
+end-number old new rest after (inr (closed, is, same, stays)) = ap (λ (r : ReaderState). r.number) same
+
+-- ---- what is told
+
+-- the first fault, or that memory ran out
+pub told-fault : (told : Told) (count : ℕ) (said reading : Result AuditInput Fault) (fault : Fault) → said ≡ Err fault → ReadsAs said reading → TellsOf told (Err fault) → (fault.refusal ≡ Memory → Tells told memory_line status.Memory) → TellsOf told (told_by count reading)
+told-fault told count said reading fault is (inl none) tells memory =
+    let same : Err fault ≡ Err no_memory = sym is ∙ none in
+    let one : fault ≡ no_memory = cc in
+    inl (memory (ap (λ (f : Fault). f.refusal) one))
+told-fault told count said reading fault is (inr same) tells memory =
+    subst (λ r. TellsOf told (told_by count r)) (sym (same ∙ is)) tells
+
+-- ---- what was read and written
+
+-- an audit that stops without a line
+pub Serves-stopped : {ended : Status} {before after : Option (List ℕ)} (taken : Option (List ℕ)) (room : ℕ) → StopsAudit ended before after → Serves (Some mode.Audit) ended before after taken taken room
+Serves-stopped {ended} {before} {after} taken room stops = record {
+  came = stops.0;
+  text = [];
+  read = stops.1;
+  written = Appends-nil taken;
+  served = by ended stops.2;
+}
+  where
+    by : (ended : Status) → StopsBy ended stops.0 → Audits ended after stops.0 [] room
+    by status.ReadFault stopped = (stopped, refl)
+    by status.InputTooLong stopped = (stopped, refl)
+    by status.Memory stopped = inl (stopped, refl)
+    by status.Clean stopped = absurd stopped
+    by status.Refused stopped = absurd stopped
+    by status.Words stopped = absurd stopped
+    by status.WriteFault stopped = absurd stopped
+
+-- there was no memory to begin with
+pub stops-nothing : (rest : Option (List ℕ)) → StopsAudit status.Memory rest rest
+stops-nothing rest = ([], Consumes-nil rest, refl)
+
+-- the whole line was written
+pub Serves-told : {told : Told} {before after : Option (List ℕ)} (taken_before taken_after : Option (List ℕ)) (room : ℕ) → Audited told before after → Appends taken_before taken_after told.line → Serves (Some mode.Audit) told.status before after taken_before taken_after room
+Serves-told {told} {before} {after} taken_before taken_after room audited written = record {
+  came = audited.came;
+  text = told.line;
+  read = audited.read;
+  written = written;
+  served = by audited.tells;
+}
+  where
+    -- what is told of a verdict or a fault
+    ends : (ended : Status) → audit_status_by (audit_of (lines audited.came)) ≡ ended → told.line ≡ audit_text_by (audit_of (lines audited.came)) → IsWholeAudit ended audited.came told.line
+    ends ended is line = record { text_is = line; ended_is = sym is; within = audited.within }
+
+    by_wrong : (wrong : Option ℕ) → audit_status_by (audit_of (lines audited.came)) ≡ verdict_status wrong → told.line ≡ audit_text_by (audit_of (lines audited.came)) → Audits (verdict_status wrong) after audited.came told.line room
+    by_wrong None is line = (audited.at_end, ends status.Clean is line)
+    by_wrong (Some place) is line = (audited.at_end, ends status.Refused is line)
+
+    whole : (answer : Result Verdict Fault) → audit_of (lines audited.came) ≡ answer → told.line ≡ audit_text_by (audit_of (lines audited.came)) → Audits (audit_status_by answer) after audited.came told.line room
+    whole (Ok verdict) is line = by_wrong verdict.wrong (ap audit_status_by is) line
+    whole (Err fault) is line = (audited.at_end, ends status.Refused (ap audit_status_by is) line)
+
+    by : TellsOf told (audit_of (lines audited.came)) → Audits told.status after audited.came told.line room
+    by (inl tells) = subst (λ s. Audits s after audited.came told.line room) (sym tells.status_is) (inr (audited.at_end, audited.within, tells.line_is))
+    by (inr tells) = subst (λ s. Audits s after audited.came told.line room) (sym tells.status_is) (whole (audit_of (lines audited.came)) refl tells.line_is)
+
+-- a part of it was written
+pub Serves-part : {told : Told} {before after : Option (List ℕ)} (taken_before taken_after : Option (List ℕ)) (room : ℕ) (text : List ℕ) → Audited told before after → Appends taken_before taken_after text → IsPart text told.line room → Serves (Some mode.Audit) status.WriteFault before after taken_before taken_after room
+Serves-part {told} {before} {after} taken_before taken_after room text audited written part = record {
+  came = audited.came;
+  text = text;
+  read = audited.read;
+  written = written;
+  served = (audited.at_end, audited.within, by audited.tells);
+}
+  where
+    by : TellsOf told (audit_of (lines audited.came)) → IsPart text (audit_text_by (audit_of (lines audited.came))) room ⊎ IsPart text memory_line room
+    by (inl tells) = inr (subst (λ line. IsPart text line room) tells.line_is part)
+    by (inr tells) = inl (subst (λ line. IsPart text line room) tells.line_is part)
