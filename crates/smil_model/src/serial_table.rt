@@ -1,7 +1,8 @@
 //! Where serials stand, by serial.
 
-ghost use Rattle.std.specs.Prelude.{◌≡◌, ◌<◌, ◌-◌, ◌^◌, ◌==◌, ℕ, Some, None, IsOk, IsSome, OnOk, OnErr, if◌then◌else◌, vec_len};
+ghost use Rattle.std.specs.Prelude.{◌≡◌, ◌<◌, ◌-◌, ◌^◌, ◌==◌, nat_eq, ℕ, Some, None, IsOk, IsSome, OnOk, OnErr, if◌then◌else◌, vec_len};
 ghost use Rattle.std.specs.FinMap.{get};
+ghost use Rattle.std.specs.Map.{lookup};
 ghost use Rattle.smil_model.specs.SerialTable.{low_place};
 
 use super::duplicate::Duplicate;
@@ -67,7 +68,7 @@ impl SerialTable {
         if serial < LOW {
             low_place(&self.low, serial)
         } else {
-            self.high.get(&serial).copied()
+            high_place(&self.high, serial)
         }
     }
 
@@ -110,6 +111,15 @@ fn low_place(low: &[u32], serial: u32) -> Option<usize>
         Some(place) if *place != ABSENT => Some(*place as usize),
         _ => None,
     }
+}
+
+// The place of a serial that is found by its hash: a call of its own, so that the look-up by index
+// stands where it is made.
+#[inline(never)]
+fn high_place(high: &HashMap<u32, usize>, serial: u32) -> Option<usize>
+    ensures { result ≡ lookup (nat_eq serial) high.now.entries }
+{
+    high.get(&serial).copied()
 }
 
 // Gives a serial that is found by index a place.

@@ -133,6 +133,7 @@ fn decide_above<T: Contender>(places: &mut [T], half: usize, place: usize)
 }
 
 // Decides a place by the two below it.
+#[inline(always)]
 fn decide<T: Contender>(places: &mut [T], place: usize)
     requires within { place < length places.old }
     requires few { place < most_items }
@@ -145,6 +146,7 @@ fn decide<T: Contender>(places: &mut [T], place: usize)
 }
 
 // The item at a place; a place past the last one is empty.
+#[inline(always)]
 fn at<T: Contender>(places: &[T], place: usize) -> T
     ensures { result ≡ at_place T.none places.now place }
 {

@@ -11,6 +11,5 @@ returns-then-serial-lt-LOW c =
 
 pub returns-else-serial-lt-LOW : goal.returns-else-serial-lt-LOW
 returns-else-serial-lt-LOW c =
-    c.copied.ensures
-    ∙ c.get.ensures.value
+    c.high_place.ensures
     ∙ sym (told_high c.self.inside.low.items c.self.inside.high.entries c.args.self.now c.self.view_is c.args.serial c.if-serial-lt-LOW.false)
