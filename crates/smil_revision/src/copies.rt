@@ -64,7 +64,7 @@ pub fn without_name(tree: &Tree, serial: u32, attr: LineText<'_>) -> Result<Tree
 {
     let name = read_name(named(tree, serial, attr))?;
     let mut edited = tree.copy()?;
-    edited.unset(serial, name);
+    edited.unset(serial, name)?;
     Ok(edited)
 }
 

@@ -74,7 +74,7 @@ impl Editor {
     {
         match attr_name(self.tree.kind(serial), attr.slice()) {
             Ok(name) => {
-                self.tree.unset(serial, name);
+                self.tree.unset(serial, name)?;
                 Ok(put_word(out, "ok")?)
             }
             Err(fault) => attr_fault(out, fault),

@@ -22,11 +22,11 @@ use Rattle.smil_laws.proofs.AsideDocuments.{find_true}
 use Rattle.smil_laws.proofs.Lists.{filter_shorter}
 use Rattle.smil_tree.specs.Outcomes.{passes, may_take}
 use Rattle.std.specs.Cmp.Lexicographic.{bytes_decides}
-use Rattle.smil_model.specs.document.Document.{has_id, node_at, is_class_kind, is_set_kind}
+use Rattle.smil_model.specs.document.Document.{node_at, is_class_kind, is_set_kind}
 use Rattle.smil_model.specs.document.Valid.{IsNumberedTree, IsTree, IsTreeFrom, IsDistinct, open_from, is_id_taken, is_reference, kind_of, listed_references, references, references_among, references_of}
 use Rattle.smil_model.specs.document.Edits.{changed_at, with_attr, without_attr}
 use Rattle.smil_tree.specs.TreeFields.{bears, owner, is_other, IsTableOf}
-use Rattle.smil_tree.proofs.Listed.{with_attrs}
+use Rattle.smil_tree.specs.Places.{with_attrs}
 use Rattle.smil_tree.proofs.IdOwners.{Around, around, count-append, count-one, count-cons, sum-one, owner-between, owner-without, taken}
 
 references_split : (nodes front back : List Node) (n : Node) → nodes ≡ front ++ n ∷ back → references nodes ≡ references front + (references_among n.attrs + references back)
@@ -191,71 +191,13 @@ module _ (change : Attrs → Attrs) (s : ℕ) where
       ∙ owner-between q a.front (with_attrs change old) a.back after
       ∙ ap (cond (bears q (with_attrs change old)) (Some old.serial)) (owner-without q a.front old a.back before ∙ ap (λ ns. cond (bears q old) None (owner q ns)) (sym a.before))
 
-  -- where the id stays, so does the owner
-  pub owner_stays : (nodes : List Node) (old : Node) → IsDistinct nodes → node_at nodes s ≡ Some old → ((q : List ℕ) → count_by (bears q) nodes ≤ 1) → (change old.attrs).id ≡ old.attrs.id → (q : List ℕ) → owner q (changed_at change s nodes) ≡ owner q nodes
-  owner_stays nodes old d at once same q =
-      let a = around change s nodes old d at in
-      let bears_same : bears q (with_attrs change old) ≡ bears q old = ap (has_id q) same in
-      let before : count_by (bears q) (a.front ++ old ∷ a.back) ≤ 1 = omega (arith, once q, ap (count_by (bears q)) a.before) in
-      let weight : ◌≡◌ {A = ℕ} (cond (bears q (with_attrs change old)) 1 0) (cond (bears q old) 1 0) = ap (λ t. cond t 1 0) bears_same in
-      let after : count_by (bears q) (a.front ++ with_attrs change old ∷ a.back) ≤ 1 = omega (arith, before, weight, count-one q a.front (with_attrs change old) a.back, count-one q a.front old a.back) in
-      ap (owner q) a.after
-      ∙ owner-between q a.front (with_attrs change old) a.back after
-      ∙ ap (λ t. cond t (Some old.serial) (owner q (a.front ++ a.back))) bears_same
-      ∙ sym (owner-between q a.front old a.back before)
-      ∙ sym (ap (owner q) a.before)
-
--- ---- which attributes change the id
-
-pub with_id_kept : (given : Attr) → ((id : List ℕ) → given ≡ attr.Id id → ⊥) → (attrs : Attrs) → (with_attr attrs given).id ≡ attrs.id
-with_id_kept (attr.Id id) other attrs = absurd (other id refl)
-with_id_kept (attr.Begin v) other attrs = refl
-with_id_kept (attr.Dur v) other attrs = refl
-with_id_kept (attr.End v) other attrs = refl
-with_id_kept (attr.Min v) other attrs = refl
-with_id_kept (attr.Max v) other attrs = refl
-with_id_kept (attr.RepeatCount v) other attrs = refl
-with_id_kept (attr.RepeatDur v) other attrs = refl
-with_id_kept (attr.Restart v) other attrs = refl
-with_id_kept (attr.Fill v) other attrs = refl
-with_id_kept (attr.RestartDefault v) other attrs = refl
-with_id_kept (attr.FillDefault v) other attrs = refl
-with_id_kept (attr.Endsync v) other attrs = refl
-with_id_kept (attr.Peers v) other attrs = refl
-with_id_kept (attr.Higher v) other attrs = refl
-with_id_kept (attr.Lower v) other attrs = refl
-with_id_kept (attr.Src v) other attrs = refl
-with_id_kept (attr.Region v) other attrs = refl
-with_id_kept (attr.Alt v) other attrs = refl
-with_id_kept (attr.Title v) other attrs = refl
-with_id_kept (attr.TargetElement v) other attrs = refl
-with_id_kept (attr.AttributeName v) other attrs = refl
-with_id_kept (attr.To v) other attrs = refl
-
-pub without_id_kept : (given : AttrName) → (given ≡ name.Id → ⊥) → (attrs : Attrs) → (without_attr attrs given).id ≡ attrs.id
-without_id_kept name.Id other attrs = absurd (other refl)
-without_id_kept name.Begin other attrs = refl
-without_id_kept name.Dur other attrs = refl
-without_id_kept name.End other attrs = refl
-without_id_kept name.Min other attrs = refl
-without_id_kept name.Max other attrs = refl
-without_id_kept name.RepeatCount other attrs = refl
-without_id_kept name.RepeatDur other attrs = refl
-without_id_kept name.Restart other attrs = refl
-without_id_kept name.Fill other attrs = refl
-without_id_kept name.RestartDefault other attrs = refl
-without_id_kept name.FillDefault other attrs = refl
-without_id_kept name.Endsync other attrs = refl
-without_id_kept name.Peers other attrs = refl
-without_id_kept name.Higher other attrs = refl
-without_id_kept name.Lower other attrs = refl
-without_id_kept name.Src other attrs = refl
-without_id_kept name.Region other attrs = refl
-without_id_kept name.Alt other attrs = refl
-without_id_kept name.Title other attrs = refl
-without_id_kept name.TargetElement other attrs = refl
-without_id_kept name.AttributeName other attrs = refl
-without_id_kept name.To other attrs = refl
+  -- the table once another node stands in the place of a node
+  pub renamed : (nodes : List Node) (old new : Node) (table after : List (List ℕ × ℕ)) → IsDistinct nodes → node_at nodes s ≡ Some old → new ≡ with_attrs change old → ((q : List ℕ) → count_by (bears q) nodes ≤ 1) → ((q : List ℕ) → count_by (bears q) (changed_at change s nodes) ≤ 1) → IsTableOf table nodes → ((q : List ℕ) → lookup (bytes_eq q) after ≡ cond (bears q new) (Some old.serial) (cond (bears q old) None (lookup (bytes_eq q) table))) → IsTableOf after (changed_at change s nodes)
+  renamed nodes old new table after d at is once still tabled gives q =
+      gives q
+      ∙ ap (λ (n : Node). cond (bears q n) (Some old.serial) (cond (bears q old) None (lookup (bytes_eq q) table))) is
+      ∙ ap (λ o. cond (bears q (with_attrs change old)) (Some old.serial) (cond (bears q old) None o)) (tabled q)
+      ∙ sym (owner_change nodes old d at once still q)
 
 -- ---- few references in fitting attributes
 
@@ -307,23 +249,8 @@ some_node (Some n) h = (n, refl)
 pub serial_of : (nodes : List Node) (s : ℕ) (old : Node) → node_at nodes s ≡ Some old → old.serial ≡ s
 serial_of nodes s old at = eqb-true old.serial s (find_true (λ (n : Node). n.serial == s) nodes old at)
 
-pub renamed : (nodes : List Node) (s : ℕ) (old : Node) (given : Attr) (id : List ℕ) (table after : List (List ℕ × ℕ)) → IsDistinct nodes → node_at nodes s ≡ Some old → ((q : List ℕ) → count_by (bears q) nodes ≤ 1) → ((q : List ℕ) → count_by (bears q) (changed_at (λ attrs. with_attr attrs given) s nodes) ≤ 1) → given ≡ attr.Id id → IsTableOf table nodes → ((q : List ℕ) → lookup (bytes_eq q) after ≡ cond (bytes_eq id q) (Some s) (cond (has_id q old.attrs.id) None (lookup (bytes_eq q) table))) → IsTableOf after (changed_at (λ attrs. with_attr attrs given) s nodes)
-renamed nodes s old given id table after d at once still is tabled gives q =
-    gives q
-    ∙ ap (λ o. cond (bytes_eq id q) (Some s) (cond (bears q old) None o)) (tabled q)
-    ∙ ap (λ x. cond (bytes_eq id q) (Some x) (cond (bears q old) None (owner q nodes))) (sym (serial_of nodes s old at))
-    ∙ ap (λ (g : Attr). cond (has_id q (with_attr old.attrs g).id) (Some old.serial) (cond (bears q old) None (owner q nodes))) (sym is)
-    ∙ sym (owner_change (λ attrs. with_attr attrs given) s nodes old d at once still q)
-
 no_id : (t : Bool) → false ≡ true → t ≡ true
 no_id t h = cc
-
-pub unnamed : (nodes : List Node) (s : ℕ) (old : Node) (given : AttrName) (table after : List (List ℕ × ℕ)) → IsDistinct nodes → node_at nodes s ≡ Some old → ((q : List ℕ) → count_by (bears q) nodes ≤ 1) → given ≡ name.Id → IsTableOf table nodes → ((q : List ℕ) → lookup (bytes_eq q) after ≡ cond (bears q old) None (lookup (bytes_eq q) table)) → IsTableOf after (changed_at (λ attrs. without_attr attrs given) s nodes)
-unnamed nodes s old given table after d at once is tabled gives =
-    rw is (λ q.
-    gives q
-    ∙ ap (λ o. cond (bears q old) None o) (tabled q)
-    ∙ sym (owner_change (λ attrs. without_attr attrs name.Id) s nodes old d at once (once_stays (λ attrs. without_attr attrs name.Id) s nodes old d at once (λ p h. inl (no_id (bears p old) h))) q))
 
 new_id : (nodes : List Node) (s : ℕ) (old : Node) (given : Attr) → is_id_taken nodes s (id_in given) ≡ false → (q : List ℕ) → bears q (with_attrs (λ attrs. with_attr attrs given) old) ≡ true → (bears q old ≡ true) ⊎ (is_id_taken nodes s (Some q) ≡ false)
 new_id nodes s old (attr.Id id) free q h = inr (ap (λ p. is_id_taken nodes s (Some p)) (sym ((bytes_decides id q).0 h)) ∙ free)

@@ -270,10 +270,6 @@ module _ (xs : List Node) (old new : FinMap nat_cmp ℕ) where
       by_serial s true same = sym (any_at (λ (y : Node). y.serial == s) xs k x here same)
       by_serial s false differ = counted.known s
 
-  -- the same, for the node that an index reads
-  pub counted_next : (k : ℕ) (d : Node) → IsDistinct xs → IsCounted xs old k → k < length xs → ((s : ℕ) → place_of new s ≡ cond ((get_or xs k d).serial == s) (Some k) (place_of old s)) → IsCounted xs new (k + 1)
-  counted_next k d apart counted less put = counted_more k (get_or xs k d) apart counted (slice_get-get_or xs k d less) put
-
 -- a node that is counted next has a place already
 pub counted_has : (xs : List Node) (places : FinMap nat_cmp ℕ) (k : ℕ) (d : Node) → IsCounted xs places k → k < length xs → IsSome (place_of places (get_or xs k d).serial)
 counted_has xs places k d counted less =

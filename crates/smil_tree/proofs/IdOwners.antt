@@ -10,7 +10,7 @@ use Rattle.smil_model.specs.document.Document.{node_at}
 use Rattle.smil_model.specs.document.Valid.{IsDistinct, is_id_taken, is_other_with}
 use Rattle.smil_model.specs.document.Edits.{changed_at}
 use Rattle.smil_tree.specs.TreeFields.{bears, owner, is_other}
-use Rattle.smil_tree.proofs.Listed.{with_attrs}
+use Rattle.smil_tree.specs.Places.{with_attrs}
 
 -- ---- counts
 

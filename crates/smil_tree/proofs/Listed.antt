@@ -1,11 +1,10 @@
 -- Nodes in document order, read and changed by their serials.
-use Rattle.std.proofs.Common.{◌≡◌, refl, sym, ◌∙◌, ap, ℕ, zero, suc, List, [], ◌∷◌, Option, Some, None, Bool, true, false, cond, length, set, get_or, arith}
+use Rattle.std.proofs.Common.{◌≡◌, refl, sym, ◌∙◌, ap, ℕ, zero, suc, List, [], ◌∷◌, Option, Some, None, Bool, true, false, cond, length, set, arith}
 use Rattle.std.specs.Prelude.{◌==◌, ◌||◌, slice_get, option_map, is_some, IsSome}
 use Rattle.std.specs.FinMap.{FinMap, get as place_of}
 use Rattle.std.specs.List.{list_any, position}
 use Rattle.std.specs.Ordering.{nat_cmp}
 use Rattle.std.proofs.lemmas.Bool.{or_parts, eq-eqb}
-use Rattle.std.proofs.lemmas.Option.{get_or_from_slice_get}
 use Rattle.smil_model.specs.declared.document.Node.{Node}
 use Rattle.smil_model.specs.declared.document.Attrs.{Attrs}
 use Rattle.smil_model.specs.document.Document.{node_at}
@@ -13,7 +12,7 @@ use Rattle.smil_model.specs.document.Edits.{changed_at}
 use Rattle.smil_model.specs.document.Valid.{IsDistinct}
 use Rattle.smil_laws.proofs.LineageParents.{swap_eqb}
 use Rattle.smil_model.proofs.FirstPlaces.{position_cons}
-use Rattle.smil_tree.specs.Places.{IsIndexed, place_among}
+use Rattle.smil_tree.specs.Places.{IsIndexed, place_among, with_attrs}
 use Rattle.smil_tree.proofs.Counted.{At, none_at, node_at_place}
 
 -- the node with a serial, by its place
@@ -42,10 +41,6 @@ none_there s (n ∷ ns) q = by (n.serial == s) refl (none_there s ns)
     by false is rest = ap (λ t. t || list_any (λ (m : Node). m.serial == s) ns) is ∙ rest (sym (ap (λ t. cond t (Some n) (node_at ns s)) is) ∙ q)
 
 -- ---- a node changed in place
-
--- the node with other attributes
-abbrev pub with_attrs : (Attrs → Attrs) → Node → Node
-with_attrs change n = record n { attrs = change n.attrs }
 
 -- where no node has the serial, nothing changes
 none_changed : (change : Attrs → Attrs) (s : ℕ) (ns : List Node) → list_any (λ (n : Node). n.serial == s) ns ≡ false → changed_at change s ns ≡ ns
@@ -91,7 +86,7 @@ module _ (change : Attrs → Attrs) (s : ℕ) where
   same_serial n true = refl
   same_serial n false = refl
 
-  long_changed : (ns : List Node) → length (changed_at change s ns) ≡ length ns
+  pub long_changed : (ns : List Node) → length (changed_at change s ns) ≡ length ns
   long_changed [] = refl
   long_changed (n ∷ ns) = ap suc (long_changed ns)
 
@@ -121,11 +116,13 @@ module _ (change : Attrs → Attrs) (s : ℕ) where
     placed = λ v. indexed.placed v ∙ sym (place_changed v ns);
   }
 
--- the node at the place of a serial, with other attributes: the nodes then
-pub set_there : (change : Attrs → Attrs) (nodes : List Node) (places : FinMap nat_cmp ℕ) (s place : ℕ) (x : Node) (new : Attrs) → IsIndexed nodes places → place_of places s ≡ Some place → x ≡ get_or nodes place x → new ≡ change x.attrs → set nodes place (record x { attrs = new }) ≡ changed_at change s nodes
-set_there change nodes places s place x new indexed is lent changed =
+-- a node with other attributes at the place of a serial: the nodes then
+pub replaced_there : (change : Attrs → Attrs) (nodes : List Node) (places : FinMap nat_cmp ℕ) (s place : ℕ) (old new : Node) → IsIndexed nodes places → place_of places s ≡ Some place → node_at nodes s ≡ Some old → new ≡ with_attrs change old → set nodes place new ≡ changed_at change s nodes
+replaced_there change nodes places s place old new indexed is at changed =
     let there = found nodes places indexed s place is in
-    let same : there.node ≡ x = sym (lent ∙ get_or_from_slice_get nodes place there.node x there.at) in
-    ap (λ attrs. set nodes place (record x { attrs = attrs })) changed
-    ∙ changed_there change x nodes place indexed.apart (there.at ∙ ap Some same)
+    let here : slice_get nodes place ≡ Some old = sym (ap (at_place nodes) is) ∙ sym (node-told nodes places indexed s) ∙ at in
+    let both : Some there.node ≡ Some old = sym there.at ∙ here in
+    let same : there.node ≡ old = cc in
+    ap (set nodes place) changed
+    ∙ changed_there change old nodes place indexed.apart here
     ∙ ap (λ v. changed_at change v nodes) (ap (λ (n : Node). n.serial) (sym same) ∙ there.its)

@@ -20,7 +20,7 @@ use Rattle.smil_laws.proofs.Lists.{each_chosen}
 use Rattle.smil_laws.proofs.EditsBelow.{upwards_edit}
 use Rattle.smil_tree.specs.TreeFields.{bears, owner, is_other}
 use Rattle.smil_tree.proofs.AttributesChanged.{serial_stays, parent_stays}
-use Rattle.smil_tree.proofs.Listed.{with_attrs}
+use Rattle.smil_tree.specs.Places.{with_attrs}
 use Rattle.smil_tree.proofs.KinTrees.{keeps_reversed}
 use Rattle.smil_tree.proofs.IdOwners.{around, owner-between, taken}
 

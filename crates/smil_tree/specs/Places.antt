@@ -3,6 +3,7 @@ use Rattle.std.specs.Prelude.{◌≡◌, ℕ, ◌-◌, ◌^◌, ◌<◌, List, �
 use Rattle.std.specs.FinMap.{FinMap, get as place_of}
 use Rattle.std.specs.List.{list_any, position}
 use Rattle.std.specs.Ordering.{nat_cmp}
+use Rattle.smil_model.specs.declared.document.Attrs.{Attrs}
 use Rattle.smil_model.specs.declared.document.Node.{Node}
 use Rattle.smil_model.specs.document.Valid.{IsDistinct}
 
@@ -26,3 +27,7 @@ pub record IsCounted (nodes : List Node) (places : FinMap nat_cmp ℕ) (first : 
 -- the list without what stands from one place on up to another
 abbrev pub cut : {A : Type 0} → ℕ → ℕ → List A → List A
 cut place past xs = take place xs ++ drop past xs
+
+-- the node with other attributes
+abbrev pub with_attrs : (Attrs → Attrs) → Node → Node
+with_attrs change n = record n { attrs = change n.attrs }

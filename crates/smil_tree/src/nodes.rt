@@ -1,24 +1,66 @@
 //! Nodes in document order, found by their serials.
 
-ghost use Rattle.std.specs.Prelude.{◌≡◌, ℕ, ◌+◌, ◌-◌, ◌^◌, ◌<◌, ◌≤◌, ◌==◌, [], length, insert, None, IsSome, OnOk, OnErr, if◌then◌else◌, slice_get, slice_range, option_copied};
+ghost use Rattle.std.specs.Prelude.{◌≡◌, ℕ, ◌+◌, ◌-◌, ◌^◌, ◌<◌, ◌≤◌, ◌==◌, [], length, insert, None, Some, IsSome, IfOk, OnOk, OnErr, if◌then◌else◌, slice_get, slice_range, option_copied};
 ghost use Rattle.std.specs.FinMap.{get as place_of};
 ghost use Rattle.std.specs.List.{position, list_any};
 ghost use Rattle.std.specs.Iterator.{at_most};
 ghost use Rattle.std.specs.Map.Iter.{TakesFirst, TakesLast, deref};
+ghost use Rattle.smil_model.specs.declared.document.Attrs.{Attrs as AnyAttrs};
 ghost use Rattle.smil_model.specs.declared.document.Node.{Node as AnyNode};
 ghost use Rattle.smil_model.specs.document.Document.{node_at};
 ghost use Rattle.smil_model.specs.document.Edits.{changed_at, with_attr as attrs_with, without_attr as attrs_without};
 ghost use Rattle.smil_model.specs.document.Valid.{IsDistinct};
-ghost use Rattle.smil_tree.specs.Places.{IsCounted, cut};
+ghost use Rattle.smil_tree.specs.Places.{IsCounted, cut, with_attrs};
 
 use smil_model::{Attr, AttrName, Duplicate, Node, SerialTable, with_attr, without_attr};
 use std::alloc::{AllocError, Global};
 use std::marker::Model;
+use std::rc::Rc;
 use std::slice::Iter;
+
+/// A node that copies of the nodes share, seen as the node.
+#[derive(Drop)]
+pub struct SharedNode {
+    node: Rc<Node>,
+}
+
+impl Model for SharedNode {
+    ghost use Rattle.smil_model.specs.declared.document.Node.{Node};
+
+    ghost Value = { Node };
+
+    ghost view = { λ a. a.node.value };
+}
+
+impl Duplicate for SharedNode {
+    fn copy(&self) -> Result<Self, AllocError> {
+        Ok(SharedNode {
+            node: self.node.clone()?,
+        })
+    }
+}
+
+impl SharedNode {
+    // A node that nothing shares yet.
+    fn new(alloc: Global, node: Node) -> Result<SharedNode, AllocError>
+        ensures { IfOk result (λ shared. shared ≡ node) }
+    {
+        Ok(SharedNode {
+            node: Rc::new(alloc, node)?,
+        })
+    }
+
+    /// The node. It takes no memory.
+    pub fn node(&self) -> &Node
+        ensures { result.now ≡ self.now }
+    {
+        self.node.as_ref()
+    }
+}
 
 /// Nodes, seen as their list in document order, with the place of each among them by its serial.
 pub struct Nodes {
-    list: Vec<Node>,
+    list: Vec<SharedNode>,
     places: SerialTable,
 }
 
@@ -60,7 +102,7 @@ impl Duplicate for Nodes {
 /// The nodes that are left of a walk through nodes in document order, seen as their list.
 #[derive(Drop)]
 pub struct Walk<'a> {
-    nodes: Iter<'a, Node>,
+    nodes: Iter<'a, SharedNode>,
 }
 
 impl<'a> Model for Walk<'a> {
@@ -80,7 +122,7 @@ impl<'a> Iterator for Walk<'a> {
     ghost remaining = { λ s. at_most (length s) };
 
     fn next(&mut self) -> Option<&'a Node> {
-        self.nodes.next()
+        Some(self.nodes.next()?.node())
     }
 }
 
@@ -88,7 +130,7 @@ impl<'a> DoubleEndedIterator for Walk<'a> {
     ghost next_back_gives = { TakesLast deref };
 
     fn next_back(&mut self) -> Option<&'a Node> {
-        self.nodes.next_back()
+        Some(self.nodes.next_back()?.node())
     }
 }
 
@@ -135,7 +177,7 @@ impl Nodes {
     pub fn at(&self, place: usize) -> Option<&Node>
         ensures { option_copied result ≡ slice_get self.now place }
     {
-        self.list.get(place)
+        Some(self.list.get(place)?.node())
     }
 
     /// The position of the node with a serial; None exactly where there is no such node. It takes
@@ -162,9 +204,11 @@ impl Nodes {
         ensures ok { OnOk result (self.new ≡ insert self.old place node) }
         ensures err { OnErr result (self.new ≡ self.old) }
     {
+        let serial = node.serial;
+        let shared = SharedNode::new(*self.list.allocator(), node)?;
         self.list.reserve(1)?;
-        self.places.put(node.serial, place)?;
-        self.list.insert(place, node).unwrap();
+        self.places.put(serial, place)?;
+        self.list.insert(place, shared).unwrap();
         count_from(&mut self.places, &self.list, place);
         Ok(())
     }
@@ -180,28 +224,44 @@ impl Nodes {
         count_from(&mut self.places, &self.list, place);
     }
 
-    /// Gives the node with a serial an attribute. It takes no memory.
-    pub fn set(&mut self, serial: u32, attr: Attr)
-        requires { IsSome (node_at self.old serial) }
-        ensures { self.new ≡ changed_at (λ attrs. attrs_with attrs attr) serial self.old }
+    /// The node with a serial, given an attribute, unless memory runs out. The nodes stay.
+    pub fn with_attr(&self, serial: u32, attr: Attr) -> Result<SharedNode, AllocError>
+        requires { IsSome (node_at self.now serial) }
+        ensures { IfOk result (λ node. (old : AnyNode) → node_at self.now serial ≡ Some old
+            → node ≡ with_attrs (λ attrs. attrs_with attrs attr) old) }
     {
-        let place = self.places.get(serial).unwrap();
-        with_attr(&mut self.list[place].attrs, attr);
+        let mut node = self.get(serial).unwrap().copy()?;
+        with_attr(&mut node.attrs, attr);
+        SharedNode::new(*self.list.allocator(), node)
     }
 
-    /// Takes an attribute of the node with a serial away. It takes no memory.
-    pub fn unset(&mut self, serial: u32, name: AttrName)
-        requires { IsSome (node_at self.old serial) }
-        ensures { self.new ≡ changed_at (λ attrs. attrs_without attrs name) serial self.old }
+    /// The node with a serial without an attribute, unless memory runs out. The nodes stay.
+    pub fn without_attr(&self, serial: u32, name: AttrName) -> Result<SharedNode, AllocError>
+        requires { IsSome (node_at self.now serial) }
+        ensures { IfOk result (λ node. (old : AnyNode) → node_at self.now serial ≡ Some old
+            → node ≡ with_attrs (λ attrs. attrs_without attrs name) old) }
+    {
+        let mut node = self.get(serial).unwrap().copy()?;
+        without_attr(&mut node.attrs, name);
+        SharedNode::new(*self.list.allocator(), node)
+    }
+
+    /// Puts a node with other attributes in the place of the one with its serial. It takes no
+    /// memory.
+    pub fn replace(&mut self, serial: u32, node: SharedNode)
+        requires { (change : AnyAttrs → AnyAttrs) × (old : AnyNode)
+            × (node_at self.old serial ≡ Some old) × (node ≡ with_attrs change old) }
+        ensures { (change : AnyAttrs → AnyAttrs) (old : AnyNode) → node_at self.old serial ≡ Some old
+            → node ≡ with_attrs change old → self.new ≡ changed_at change serial self.old }
     {
         let place = self.places.get(serial).unwrap();
-        without_attr(&mut self.list[place].attrs, name);
+        self.list[place] = node;
     }
 }
 
 // Gives the serials of the nodes from a place on their places anew. It takes no memory, since each
 // serial has a place already.
-fn count_from(places: &mut SerialTable, nodes: &[Node], first: usize)
+fn count_from(places: &mut SerialTable, nodes: &[SharedNode], first: usize)
     requires few { length nodes.now < 2 ^ 32 - 1 }
     requires apart { IsDistinct nodes.now }
     requires counted { IsCounted nodes.now places.old first }
@@ -209,12 +269,12 @@ fn count_from(places: &mut SerialTable, nodes: &[Node], first: usize)
         ≡ position (λ (n : AnyNode). n.serial == s) nodes.now }
 {
     for place in first..nodes.len() {
-        places.put(nodes[place].serial, place).unwrap();
+        places.put(nodes[place].node().serial, place).unwrap();
     }
 }
 
 // The nodes without those from a place on up to another.
-fn take_out(nodes: &mut Vec<Node>, place: usize, end: usize)
+fn take_out(nodes: &mut Vec<SharedNode>, place: usize, end: usize)
     requires in_order { place ≤ end }
     requires within { end ≤ length nodes.old.items }
     ensures { nodes.new.items ≡ cut place end nodes.old.items }
@@ -223,12 +283,12 @@ fn take_out(nodes: &mut Vec<Node>, place: usize, end: usize)
 }
 
 // Drops the places of the serials of these nodes.
-fn forget_each(places: &mut SerialTable, nodes: &[Node])
+fn forget_each(places: &mut SerialTable, nodes: &[SharedNode])
     ensures { (s : ℕ) → place_of places.new s
         ≡ (if list_any (λ (n : AnyNode). n.serial == s) nodes.now then None
         else place_of places.old s) }
 {
     for node in nodes {
-        places.forget(node.serial);
+        places.forget(node.node().serial);
     }
 }

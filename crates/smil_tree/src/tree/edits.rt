@@ -1,21 +1,20 @@
 //! Edits of a tree.
 
-ghost use Rattle.std.specs.Prelude.{◌≡◌, ℕ, ◌≤◌, List, true, None, Some, Ok, IsSome, OnOk, OnErr, IfErr, count_by, if◌then◌else◌};
+ghost use Rattle.std.specs.Prelude.{◌≡◌, ℕ, List, true, None, Some, Ok, IsSome, OnOk, OnErr, IfErr, if◌then◌else◌};
 ghost use Rattle.std.specs.Str.{bytes_eq};
 ghost use Rattle.std.specs.Map.{lookup};
 ghost use Rattle.smil_model.specs.document.Document.{node_at, has_id};
-ghost use Rattle.smil_model.specs.document.Edits.{attr_set, attr_unset, changed_at, with_attr, without_attr};
-ghost use Rattle.smil_model.specs.document.Valid.{IsDistinct, is_id_taken, references};
+ghost use Rattle.smil_model.specs.document.Edits.{attr_set, attr_unset};
+ghost use Rattle.smil_model.specs.document.Valid.{is_id_taken, references};
 ghost use Rattle.smil_model.specs.shown.Orders.{id_in};
-ghost use Rattle.smil_tree.specs.TreeFields.{bears, is_other, IsTableOf};
+ghost use Rattle.smil_tree.specs.TreeFields.{bears, is_other};
 ghost use Rattle.smil_tree.specs.Outcomes.{IsFaultOf, may_take, set_outcome};
 
 use super::Tree;
 use crate::fault::TreeFault;
 use crate::ids::{Ids, forget_node};
-use crate::nodes::Nodes;
 use crate::references::{references_with, references_without};
-use smil_model::{Attr, AttrName, Bytes, REFERENCES, references_in};
+use smil_model::{Attr, AttrName, Bytes, Node, REFERENCES, references_in};
 use std::alloc::AllocError;
 
 impl Tree {
@@ -36,23 +35,28 @@ impl Tree {
         if REFERENCES < references {
             return Err(TreeFault::TooManyReferences);
         }
-        rename(&mut self.ids, &self.nodes, serial, &attr)?;
-        self.nodes.set(serial, attr);
+        let node = self.nodes.with_attr(serial, attr)?;
+        rename(&mut self.ids, self.nodes.get(serial).unwrap(), node.node())?;
+        self.nodes.replace(serial, node);
         self.outline.refresh(&self.nodes, &self.kin);
         self.references = references;
         Ok(())
     }
 
-    /// Takes an attribute of a node away; nothing changes where it is absent. It takes no memory.
-    pub fn unset(&mut self, serial: u32, name: AttrName)
+    /// Takes an attribute of a node away; nothing changes where it is absent. Where memory runs
+    /// out the tree is as before.
+    pub fn unset(&mut self, serial: u32, name: AttrName) -> Result<(), AllocError>
         requires { IsSome (node_at self.old.nodes serial) }
-        ensures { self.new ≡ attr_unset self.old serial name }
+        ensures ok { OnOk result (self.new ≡ attr_unset self.old serial name) }
+        ensures err { OnErr result (self.new ≡ self.old) }
     {
         let references = self.references_unset(serial, name);
-        unname(&mut self.ids, &self.nodes, serial, name);
-        self.nodes.unset(serial, name);
+        let node = self.nodes.without_attr(serial, name)?;
+        rename(&mut self.ids, self.nodes.get(serial).unwrap(), node.node())?;
+        self.nodes.replace(serial, node);
         self.outline.refresh(&self.nodes, &self.kin);
         self.references = references;
+        Ok(())
     }
 
     // Whether another node has the id that an attribute gives.
@@ -95,24 +99,19 @@ pub fn other_has(ids: &Ids, serial: u32, id: &[u8]) -> bool
     }
 }
 
-// The table once a node has an attribute.
-fn rename(ids: &mut Ids, nodes: &Nodes, serial: u32, attr: &Attr) -> Result<(), AllocError>
-    requires known { IsSome (node_at nodes.now serial) }
-    requires distinct { IsDistinct nodes.now }
-    requires once { (q : List ℕ) → count_by (bears q) nodes.now ≤ 1 }
-    requires still_once { (q : List ℕ)
-        → count_by (bears q) (changed_at (λ attrs. with_attr attrs attr.now) serial nodes.now) ≤ 1 }
-    requires table { IsTableOf ids.old nodes.now }
-    ensures ok { OnOk result (IsTableOf ids.new
-        (changed_at (λ attrs. with_attr attrs attr.now) serial nodes.now)) }
+// The table once another node stands in the place of a node, with its serial.
+fn rename(ids: &mut Ids, old: &Node, new: &Node) -> Result<(), AllocError>
+    ensures ok { OnOk result ((q : List ℕ)
+        → lookup (bytes_eq q) ids.new ≡ (if bears q new.now then Some old.now.serial else
+        (if bears q old.now then None else lookup (bytes_eq q) ids.old))) }
     ensures err { OnErr result (ids.new ≡ ids.old) }
 {
-    match attr {
-        Attr::Id(id) => {
-            let node = nodes.get(serial).unwrap();
-            exchange(ids, &node.attrs.id, id.slice(), serial)
+    match &new.attrs.id {
+        Some(id) => exchange(ids, &old.attrs.id, id.slice(), old.serial),
+        None => {
+            forget_node(ids, old);
+            Ok(())
         }
-        _ => Ok(()),
     }
 }
 
@@ -136,20 +135,6 @@ fn forget_other(ids: &mut Ids, old: &Option<Bytes>, new: &[u8])
 {
     match old {
         Some(old) if old.slice() != new => ids.forget(old.slice()),
-        _ => {}
-    }
-}
-
-// The table once an attribute of a node is absent.
-fn unname(ids: &mut Ids, nodes: &Nodes, serial: u32, name: AttrName)
-    requires known { IsSome (node_at nodes.now serial) }
-    requires distinct { IsDistinct nodes.now }
-    requires once { (q : List ℕ) → count_by (bears q) nodes.now ≤ 1 }
-    requires table { IsTableOf ids.old nodes.now }
-    ensures { IsTableOf ids.new (changed_at (λ attrs. without_attr attrs name) serial nodes.now) }
-{
-    match name {
-        AttrName::Id => forget_node(ids, nodes.get(serial).unwrap()),
         _ => {}
     }
 }

@@ -9,7 +9,7 @@ pub returns-clause-ok : goal.returns-clause-ok
 returns-clause-ok c =
     unset_read c.args.tree.now c.args.serial c.requires.known c.named.result.kind c.named.result.parent c.named.ensures.kind c.named.ensures.parent c.args.attr.text.now c.args.attr.column c.in_ok-name.name c.unset.new.self
     (rw (← c.named.ensures.name, ← c.named.ensures.column) c.in_ok-name.ensures)
-    (c.unset.ensures ∙ ap (λ (d : Document). attr_unset d c.args.serial c.in_ok-name.name) c.in_ok-edited.ensures)
+    (c.in_ok-unset.ensures.ok ∙ ap (λ (d : Document). attr_unset d c.args.serial c.in_ok-name.name) c.in_ok-edited.ensures)
 
 pub returns-in_err-name-clause-err : goal.returns-in_err-name-clause-err
 returns-in_err-name-clause-err c =
