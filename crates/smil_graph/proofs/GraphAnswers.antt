@@ -1,5 +1,5 @@
 -- What a graph keeps by places answers by serials.
-use Rattle.std.proofs.Common.{◌≡◌, refl, sym, ◌∙◌, ap, ℕ, List, [], ◌∷◌, Bool, true, false, Option, Some, None}
+use Rattle.std.proofs.Common.{◌≡◌, refl, sym, ◌∙◌, ap, subst, ℕ, List, [], ◌∷◌, Bool, true, false, Option, Some, None}
 use Rattle.std.specs.Prelude.{cond, filter, ◌==◌, ◌&&◌, slice_get, is_some, option_map}
 use Rattle.std.specs.List.{list_any, AllByRecursion}
 use Rattle.std.proofs.lemmas.Bool.{and_parts, eqb-true, or_from}
@@ -8,7 +8,7 @@ use Rattle.smil_model.specs.declared.document.Node.{Node}
 use Rattle.smil_model.specs.declared.document.Item.{Item}
 use Rattle.smil_model.specs.declared.document.Item.TheVariants.{Offset, Sync, Event, Repeat}
 use Rattle.smil_model.specs.declared.document.Edge.{Edge}
-use Rattle.smil_model.specs.document.Document.{is_element, elements, element_named, has_id, has_serial, is_time_child, node_at, previous_in_seq, serials, target, time_parent}
+use Rattle.smil_model.specs.document.Document.{Document, is_element, elements, element_named, has_id, has_serial, is_time_child, node_at, previous_in_seq, serials, target, time_parent}
 use Rattle.smil_model.specs.document.Defaults.{items_of}
 use Rattle.smil_model.specs.document.Dependencies.{all_items, has_implicit_duration, is_sync_with}
 use Rattle.smil_model.specs.document.Valid.{IsDistinct}
@@ -18,10 +18,15 @@ use Rattle.smil_laws.proofs.ListMembers.{differ_each}
 use Rattle.smil_laws.proofs.Lists.{each_at}
 use Rattle.smil_graph.specs.Places.{at_place, has_element, is_element_at, up, previous_of, IsIndex, IsTable, AreTimeChildren}
 use Rattle.smil_graph.specs.Graph.{is_looped_item, looped_of, looped_at, readers_of}
-use Rattle.smil_graph.specs.Tables.{element_place, marked_at, row_of, AreMarks, AreReaders}
+use Rattle.smil_graph.specs.declared.tables.Tables.{Tables}
+use Rattle.smil_graph.specs.Tables.{element_place, marked_at, row_of, AreMarks, AreReaders, AreTables}
 use Rattle.smil_graph.proofs.NodesByPlace.{there, find_place, none_each}
 use Rattle.smil_graph.proofs.DefinitionsByPlace.{previous_is}
 use Rattle.smil_graph.proofs.LinksAreDependencies.{any_there, any_filter}
+
+-- tables that are lent are those that are kept
+pub kept : (document : Document) (own lent : Tables) → lent ≡ own → AreTables document own → AreTables document lent
+kept document own lent is are = subst (AreTables document) (sym is) are
 
 abbrev pub only_element : Option Node → Option Node
 only_element None = None

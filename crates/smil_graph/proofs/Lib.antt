@@ -16,3 +16,5 @@ pub mod GraphTables
 pub mod ReachByPlace
 pub mod ElementOrder
 pub mod KeyRows
+pub mod AlikeDocuments
+pub mod AlikeTables

@@ -4,3 +4,4 @@ pub mod Tables
 pub mod Links
 pub mod Places
 pub mod Ranks
+pub mod Reduced

@@ -9,22 +9,25 @@ ghost use Rattle.smil_graph.specs.Graph.{looped_at, readers_of, IsGraphOrder};
 ghost use Rattle.smil_model.specs.declared.document.Node.{Node as AnyNode};
 ghost use Rattle.smil_graph.specs.Tables.{marked_at, row_of, element_place, reach_of, AreElements, AreOf, AreTables};
 ghost use Rattle.smil_graph.specs.Places.{is_element_at};
+ghost use Rattle.smil_graph.specs.Reduced.{all_reduced};
 
+use super::alike::are_alike;
 use super::near::near;
 use super::outline::{TimeTree, is_element_at};
 use super::row::row_at;
 use super::search::search;
-use super::tables::{Tables, serials_at, tables_like, tables_of};
+use super::tables::{Tables, serials_at, tables_of};
 use smil_model::{Doc, Duplicate, Edge, GrowingList, SerialTable, Serials};
 use smil_tree::Tree;
 use std::alloc::{AllocError, Global};
 use std::marker::Model;
+use std::rc::Rc;
 
 /// The graph of a document, seen as the document's nodes with an order of the elements: which
 /// elements read which, which references are looped, and in what order to take the elements.
 pub struct Graph {
     doc: Doc,
-    tables: Tables,
+    tables: Rc<Tables>,
     alloc: Global,
 }
 
@@ -46,18 +49,16 @@ impl Model for Graph {
 
     ghost Value = { OrderedNodes };
 
-    ghost view = { λ a. record { nodes = a.doc.nodes; order = a.tables.order } };
+    ghost view = { λ a. record { nodes = a.doc.nodes; order = a.tables.value.order } };
 
-    ghost invariant = { λ a. IsNumberedTree a.doc × AreTables a.doc a.tables };
+    ghost invariant = { λ a. IsNumberedTree a.doc × AreTables a.doc a.tables.value };
 }
 
 impl Duplicate for Graph {
     fn copy(&self) -> Result<Self, AllocError> {
-        let doc = self.doc.copy()?;
-        let tables = tables_like(self.alloc, &doc, &self.tables)?;
         Ok(Graph {
-            doc,
-            tables,
+            doc: self.doc.copy()?,
+            tables: self.tables.clone()?,
             alloc: self.alloc,
         })
     }
@@ -87,8 +88,35 @@ impl Graph {
         requires { IsNumberedTree doc }
         ensures { IfOk result (λ graph. graph.nodes ≡ doc.nodes) }
     {
-        let tables = tables_of(alloc, &doc)?;
+        let tables = Rc::new(alloc, tables_of(alloc, &doc)?)?;
         Ok(Graph { doc, tables, alloc })
+    }
+
+    /// The graph of an edited document, by that of the document before; unless memory runs out.
+    /// Where the two are alike in what a graph reads of them, as `are_alike` says, it takes time and
+    /// memory for a copy of the document alone, and else as `of` does.
+    pub fn revised(&self, before: &Tree, after: &Tree) -> Result<Graph, AllocError>
+        requires { self.now.nodes ≡ before.now.nodes }
+        ensures { IfOk result (λ graph. graph.nodes ≡ after.now.nodes) }
+    {
+        if are_alike(before, after) {
+            self.shared(after.doc_copy()?)
+        } else {
+            Graph::of(self.alloc, after)
+        }
+    }
+
+    // The graph of a document that is alike.
+    fn shared(&self, doc: Doc) -> Result<Graph, AllocError>
+        requires numbered { IsNumberedTree doc }
+        requires alike { all_reduced self.now.nodes ≡ all_reduced doc.nodes }
+        ensures { IfOk result (λ graph. graph.nodes ≡ doc.nodes) }
+    {
+        Ok(Graph {
+            doc,
+            tables: self.tables.clone()?,
+            alloc: self.alloc,
+        })
     }
 
     /// Whether an item, counted from 0, of the begins or ends of an element is a looped reference;
@@ -97,10 +125,11 @@ impl Graph {
     pub fn looped(&self, serial: u32, side: Edge, item: usize) -> bool
         ensures { result ≡ looped_at self.now.nodes serial side item }
     {
-        let place = place_of(&self.tables.places, serial);
+        let tables = self.tables.as_ref();
+        let place = place_of(&tables.places, serial);
         match side {
-            Edge::Begin => is_marked(self.tables.begins.as_slice(), place, item),
-            Edge::End => is_marked(self.tables.ends.as_slice(), place, item),
+            Edge::Begin => is_marked(tables.begins.as_slice(), place, item),
+            Edge::End => is_marked(tables.ends.as_slice(), place, item),
         }
     }
 
@@ -110,10 +139,8 @@ impl Graph {
     pub fn readers(&self, serial: u32) -> &[u32]
         ensures { result.now ≡ readers_of self.now.nodes serial }
     {
-        row_of(
-            self.tables.readers.as_slice(),
-            place_of(&self.tables.places, serial),
-        )
+        let tables = self.tables.as_ref();
+        row_of(tables.readers.as_slice(), place_of(&tables.places, serial))
     }
 
     /// The elements in an order in which each dependency that is not looped goes forward. It takes
@@ -122,7 +149,8 @@ impl Graph {
         ensures kept { result.now ≡ self.now.order }
         ensures order { IsGraphOrder self.now.nodes result.now }
     {
-        self.tables.order.slice()
+        let tables = self.tables.as_ref();
+        tables.order.slice()
     }
 
     /// The place of an element in the order, from 0; None exactly for a serial of no element. It
@@ -130,7 +158,8 @@ impl Graph {
     pub fn place_in_order(&self, serial: u32) -> Option<usize>
         ensures { result ≡ position (λ s. s == serial) self.now.order }
     {
-        place_of(&self.tables.ranks, serial)
+        let tables = self.tables.as_ref();
+        place_of(&tables.ranks, serial)
     }
 
     /// Appends the reach of an element, in document order; nothing for a serial of no element.
@@ -141,9 +170,10 @@ impl Graph {
             ≡ out.old ++ model.down_from self.now.nodes (Some serial)) }
         ensures err { OnErr result (out.new ≡ out.old) }
     {
-        match element_place(&self.doc, &self.tables.places, serial) {
+        let tables = self.tables.as_ref();
+        match element_place(&self.doc, &tables.places, serial) {
             Some(place) => {
-                let reach = reach_at(self.alloc, &self.doc, &self.tables, place)?;
+                let reach = reach_at(self.alloc, &self.doc, tables, place)?;
                 out.append(reach.slice())
             }
             None => Ok(()),
@@ -157,8 +187,9 @@ impl Graph {
         ensures ok { OnOk result (out.new ≡ out.old ++ model.down_key self.now.nodes key) }
         ensures err { OnErr result (out.new ≡ out.old) }
     {
-        let starts = row_at(self.tables.waiting.as_slice(), key as usize);
-        let reach = reach_from(self.alloc, &self.doc, &self.tables, starts)?;
+        let tables = self.tables.as_ref();
+        let starts = row_at(tables.waiting.as_slice(), key as usize);
+        let reach = reach_from(self.alloc, &self.doc, tables, starts)?;
         out.append(reach.slice())
     }
 }

@@ -2,6 +2,7 @@
 //! the elements.
 #![tactic(auto)]
 
+mod alike;
 mod components;
 mod feeders;
 mod graph;
@@ -18,4 +19,5 @@ mod tables;
 mod turned;
 mod waiting;
 
+pub use alike::are_alike;
 pub use graph::Graph;

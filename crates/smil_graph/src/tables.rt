@@ -7,7 +7,6 @@ ghost use Rattle.smil_model.specs.document.Valid.{IsNumberedTree, IsDistinct};
 ghost use Rattle.smil_model.specs.declared.document.Node.{Node};
 ghost use Rattle.smil_graph.specs.Links.{AreRows, StayBelow};
 ghost use Rattle.smil_graph.specs.Places.{IsIndex, feeds_place};
-ghost use Rattle.smil_graph.specs.Graph.{IsGraphOrder};
 ghost use Rattle.smil_graph.specs.Tables.{AreElementLevels, AreHeads, AreReaders, AreTables, serials_of_places};
 
 use super::feeders::{feeders, sources};
@@ -89,20 +88,6 @@ pub fn tables_of(alloc: Global, doc: &Doc) -> Result<Tables, AllocError>
         time_children,
         heads,
     })
-}
-
-/// What the graph of a document keeps, with the order that other tables of it have.
-pub fn tables_like(alloc: Global, doc: &Doc, other: &Tables) -> Result<Tables, AllocError>
-    requires tree { IsNumberedTree doc.now }
-    requires ordered { IsGraphOrder doc.now.nodes other.now.order }
-    ensures tables { IfOk result (λ t. AreTables doc.now t) }
-    ensures order { IfOk result (λ t. t.order ≡ other.now.order) }
-{
-    let mut tables = tables_of(alloc, doc)?;
-    let order = Serials::of(alloc, other.order.slice())?;
-    tables.ranks = first_places(alloc, order.slice())?;
-    tables.order = order;
-    Ok(tables)
 }
 
 // A level for each node, from the rows of what each element's times follow from.

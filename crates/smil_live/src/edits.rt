@@ -294,7 +294,7 @@ impl<T: Table> PresentationOver<T> {
             (least_loading (edited_to self.now edited) ≤ steps.new - steps.old)) }
     {
         edited.valid();
-        let graphed = GraphedTree::of(self.alloc, edited)?;
+        let graphed = GraphedTree::revised(self.viewer.cells.past(), edited)?;
         let len = self.staying(&graphed, site)?;
         cells_with(&self.viewer.cells, graphed, len, steps)
     }

@@ -97,6 +97,16 @@ impl GraphedTree {
         let graph = Graph::of(alloc, &tree)?;
         Ok(GraphedTree { tree, graph })
     }
+
+    /// An edited document with its graph, which is made anew only where the edit changes what a graph
+    /// reads; unless memory runs out.
+    pub fn revised(past: &Past, tree: Tree) -> Result<GraphedTree, AllocError>
+        ensures tree { IfOk result (λ graphed. graphed.tree ≡ tree) }
+        ensures graph { IfOk result (λ graphed. graphed.graph.nodes ≡ graphed.tree.nodes) }
+    {
+        let graph = past.graph().revised(past.tree(), &tree)?;
+        Ok(GraphedTree { tree, graph })
+    }
 }
 
 impl Past {
