@@ -176,12 +176,12 @@ no_mark_set [] k = refl
 no_mark_set (m ∷ ms) zero = refl
 no_mark_set (m ∷ ms) (suc k) = no_mark_set ms k
 
-other_mark : (marks : List Bool) (k j : ℕ) → (k ≡ j → ⊥) → slice_index_or (slice_set marks k false) j false ≡ slice_index_or marks j false
-other_mark [] k j differ = refl
-other_mark (m ∷ ms) zero zero differ = absurd (differ refl)
-other_mark (m ∷ ms) zero (suc j) differ = refl
-other_mark (m ∷ ms) (suc k) zero differ = refl
-other_mark (m ∷ ms) (suc k) (suc j) differ = other_mark ms k j (λ e. differ (ap suc e))
+other_mark : (value : Bool) (marks : List Bool) (k j : ℕ) → (k ≡ j → ⊥) → slice_index_or (slice_set marks k value) j false ≡ slice_index_or marks j false
+other_mark value [] k j differ = refl
+other_mark value (m ∷ ms) zero zero differ = absurd (differ refl)
+other_mark value (m ∷ ms) zero (suc j) differ = refl
+other_mark value (m ∷ ms) (suc k) zero differ = refl
+other_mark value (m ∷ ms) (suc k) (suc j) differ = other_mark value ms k j (λ e. differ (ap suc e))
 
 -- a note of another row doesn't matter
 not_last : (notes : List RowNote) (note : RowNote) (index : ℕ) → nat_eq note.index index ≡ false → is_noted (notes ++ note ∷ []) index ≡ true → is_noted notes index ≡ true
@@ -203,7 +203,7 @@ unmarked marks now note old notes is set are = λ index q. by_place index (nat_e
         cc
     by_place index false e q =
         not_last notes note index e
-        (ap (λ ns. is_noted ns index) (sym is) ∙ are index (sym (other_mark marks note.index index (eqb-false note.index index e)) ∙ q))
+        (ap (λ ns. is_noted ns index) (sym is) ∙ are index (sym (other_mark false marks note.index index (eqb-false note.index index e)) ∙ q))
 
 all_push : (rows : List ElementTimes) (notes : List RowNote) (note : RowNote) → all_put rows (notes ++ note ∷ []) ≡ all_put (times_put rows note.index note.row) notes
 all_push rows [] note = refl
@@ -220,6 +220,23 @@ still_there (n ∷ ns) note index q = step (n.index == index) (still_there ns no
     step : (t : Bool) → (is_noted ns index ≡ true → is_noted (ns ++ note ∷ []) index ≡ true) → (t || is_noted ns index) ≡ true → (t || is_noted (ns ++ note ∷ []) index) ≡ true
     step true rest p = refl
     step false rest p = rest p
+
+-- the last note is of its own row
+last_there : (notes : List RowNote) (note : RowNote) (index : ℕ) → nat_eq note.index index ≡ true → is_noted (notes ++ note ∷ []) index ≡ true
+last_there [] note index e = ap (λ t. t || false) e
+last_there (n ∷ ns) note index e = step (n.index == index) (last_there ns note index e)
+  where
+    step : (t : Bool) → is_noted (ns ++ note ∷ []) index ≡ true → (t || is_noted (ns ++ note ∷ []) index) ≡ true
+    step true rest = refl
+    step false rest = rest
+
+-- where a note is added, and its mark, each row that is marked is noted
+pub marked : (marks now : List Bool) (note : RowNote) (old notes : List RowNote) → notes ≡ old ++ note ∷ [] → now ≡ slice_set marks note.index true → AreMarked marks old → AreMarked now notes
+marked marks now note old notes is set are = λ index q. ap (λ ns. is_noted ns index) is ∙ by_place index (nat_eq note.index index) refl (sym (ap (λ ms. slice_index_or ms index false) set) ∙ q)
+  where
+    by_place : (index : ℕ) (t : Bool) → nat_eq note.index index ≡ t → slice_index_or (slice_set marks note.index true) index false ≡ true → is_noted (old ++ note ∷ []) index ≡ true
+    by_place index true e q = last_there old note index e
+    by_place index false e q = still_there old note index (are index (sym (other_mark true marks note.index index (eqb-false note.index index e)) ∙ q))
 
 pub has_itself : (rows : List ElementTimes) (noted : MarkedRows) → HasNoted rows noted noted
 has_itself rows noted = record { same = record { mark = refl; back = λ place is. refl }; still = λ index q. q }

@@ -1,5 +1,5 @@
 -- The values that the instance times of several items give together, in rising order.
-use Rattle.std.specs.Prelude.{ℤ, List, [], map, filter_map, flat_map, Bool, Option, Some, None}
+use Rattle.std.specs.Prelude.{ℤ, ℕ, List, [], ◌++◌, map, filter_map, flat_map, replicate, Bool, Option, Some, None}
 use Rattle.smil_model.specs.declared.times.Time.{Time}
 use Rattle.smil_model.specs.Times.{numbers, rising, rising_times}
 use Rattle.smil_instance_rows.specs.declared.item_times.InstanceTime.{InstanceTime}
@@ -7,6 +7,10 @@ use Rattle.smil_model.specs.Rising.{put_in, taken_out, poured}
 
 abbrev pub times_of : List InstanceTime → List Time
 times_of kept = map (λ (k : InstanceTime). k.time) kept
+
+-- lists of items, and so many more items for which nothing is kept
+abbrev pub with_idle : ℕ → List (List InstanceTime) → List (List InstanceTime)
+with_idle count lists = lists ++ replicate count []
 
 -- the begins of items, in rising order
 abbrev pub begins_of : List (List InstanceTime) → List ℤ

@@ -2,7 +2,7 @@
 
 ghost use Rattle.std.specs.Prelude.{◌≡◌, List, [], ◌∷◌, ◌++◌, OnOk, OnErr, ◌<◌, length, get_or, set, not, find, false, map};
 ghost use Rattle.smil_instance_rows.specs.Rows.{from_place, before_place};
-ghost use Rattle.smil_instance_rows.specs.Values.{merged};
+ghost use Rattle.smil_instance_rows.specs.Values.{merged, with_idle};
 ghost use Rattle.smil_instance_rows.specs.Places.{IsNotAfter, EndsWith, last_alone};
 
 use super::copies::copy_each;
@@ -13,21 +13,23 @@ use smil_model::Duplicate;
 use std::alloc::{AllocError, Global};
 use std::marker::Model;
 
-/// The instance times of each item of a begin or end list, seen as a list of lists.
+/// The instance times of each item of a begin or end list, seen as a list of lists. The last items
+/// for which nothing was kept yet have no list.
 #[derive(Drop)]
 pub struct Side<T: Instant> {
     items: Vec<ItemTimes>,
+    idle: usize,
     sorted: SortedList<T>,
 }
 
 impl<T: Instant> Model for Side<T> {
     ghost use Rattle.std.specs.Prelude.{◌≡◌, List};
     ghost use Rattle.smil_instance_rows.specs.declared.item_times.InstanceTime.{InstanceTime};
-    ghost use Rattle.smil_instance_rows.specs.Values.{merged};
+    ghost use Rattle.smil_instance_rows.specs.Values.{merged, with_idle};
 
     ghost Value = { List (List InstanceTime) };
 
-    ghost view = { λ a. a.items.items };
+    ghost view = { λ a. with_idle a.idle a.items.items };
 
     ghost invariant = { λ a. a.sorted ≡ merged T.at_most T.choose a.items.items };
 }
@@ -36,6 +38,7 @@ impl<T: Instant> Duplicate for Side<T> {
     fn copy(&self) -> Result<Self, AllocError> {
         Ok(Side {
             items: copy_each(*self.items.allocator(), &self.items)?,
+            idle: self.idle,
             sorted: self.sorted.copy()?,
         })
     }
@@ -48,18 +51,24 @@ impl<T: Instant> Side<T> {
     {
         Side {
             items: Vec::new(alloc),
+            idle: 0,
             sorted: SortedList::new(alloc),
         }
     }
 
-    /// Appends an item for which nothing is kept. Where memory runs out all is as before.
+    /// Appends an item for which nothing is kept. It takes no memory, and fails only where there
+    /// are 2^64 - 1 of them; then all is as before.
     pub fn push_item(&mut self) -> Result<(), AllocError>
         ensures ok { OnOk result (self.new ≡ self.old ++ [] ∷ []) }
         ensures err { OnErr result (self.new ≡ self.old) }
     {
-        let alloc = *self.items.allocator();
-        self.items.push(ItemTimes::new(alloc))?;
-        Ok(())
+        match self.idle.checked_add(1) {
+            Some(idle) => {
+                self.idle = idle;
+                Ok(())
+            }
+            None => Err(AllocError),
+        }
     }
 
     /// Adds an instance time to an item. Where memory runs out all is as before.
@@ -70,6 +79,7 @@ impl<T: Instant> Side<T> {
             ≡ set self.old item (get_or self.old item [] ++ last ∷ [])) }
         ensures err { OnErr result (self.new ≡ self.old) }
     {
+        lay_out(&mut self.items, &mut self.idle, item)?;
         add(&mut self.items[item], &mut self.sorted, last)
     }
 
@@ -78,7 +88,9 @@ impl<T: Instant> Side<T> {
         requires { item < length self.old }
         ensures { self.new ≡ set self.old item (from_place place (get_or self.old item [])) }
     {
-        cut(&mut self.items[item], &mut self.sorted, place);
+        if let Some(list) = self.items.get_mut(item) {
+            cut(list, &mut self.sorted, place);
+        }
     }
 
     /// Takes out of all items what is of this place or a later one. It takes no memory.
@@ -95,7 +107,9 @@ impl<T: Instant> Side<T> {
         requires { item < length self.old }
         ensures { self.new ≡ set self.old item (before_place place (get_or self.old item [])) }
     {
-        cut_later(&mut self.items[item], &mut self.sorted, place);
+        if let Some(list) = self.items.get_mut(item) {
+            cut_later(list, &mut self.sorted, place);
+        }
     }
 
     /// Whether an item has an instance time of a place before this one. It takes no memory.
@@ -104,7 +118,10 @@ impl<T: Instant> Side<T> {
         ensures { result ≡ false → (from_place place (get_or self.now item [])
             ≡ get_or self.now item []) }
     {
-        self.items[item].has_before(place)
+        match self.items.get(item) {
+            Some(list) => list.has_before(place),
+            None => false,
+        }
     }
 
     /// Whether an item has more than one instance time. It takes no memory.
@@ -113,7 +130,10 @@ impl<T: Instant> Side<T> {
         ensures { result ≡ false → (last_alone (get_or self.now item [])
             ≡ get_or self.now item []) }
     {
-        self.items[item].has_more()
+        match self.items.get(item) {
+            Some(list) => list.has_more(),
+            None => false,
+        }
     }
 
     /// Takes out of an item all but the last instance time. It takes no memory.
@@ -121,7 +141,9 @@ impl<T: Instant> Side<T> {
         requires { item < length self.old }
         ensures { self.new ≡ set self.old item (last_alone (get_or self.old item [])) }
     {
-        keep_last(&mut self.items[item], &mut self.sorted);
+        if let Some(list) = self.items.get_mut(item) {
+            keep_last(list, &mut self.sorted);
+        }
     }
 
     /// Takes the last instance time out of an item. It takes no memory.
@@ -131,7 +153,9 @@ impl<T: Instant> Side<T> {
         ensures { EndsWith (get_or self.old item [])
             (λ first last. self.new ≡ set self.old item first) }
     {
-        undo(&mut self.items[item], &mut self.sorted);
+        if let Some(list) = self.items.get_mut(item) {
+            undo(list, &mut self.sorted);
+        }
     }
 
     /// The values of all items, in rising order. It takes no memory.
@@ -157,4 +181,18 @@ impl<T: Instant> Side<T> {
     {
         self.sorted.first_after(value)
     }
+}
+
+// Makes lists for the items up to this one. Where memory runs out all items are as before.
+fn lay_out(items: &mut Vec<ItemTimes>, idle: &mut usize, item: usize) -> Result<(), AllocError>
+    requires { item < length (with_idle idle.old items.old.items) }
+    ensures same { with_idle idle.new items.new.items ≡ with_idle idle.old items.old.items }
+    ensures ok { OnOk result (item < length items.new.items) }
+{
+    while items.len() <= item {
+        let alloc = *items.allocator();
+        items.push(ItemTimes::new(alloc))?;
+        *idle -= 1;
+    }
+    Ok(())
 }

@@ -1,6 +1,6 @@
 //! Values in rising order.
 
-ghost use Rattle.std.specs.Prelude.{◌≡◌, List, [], OnOk, OnErr, not, find, slice_get};
+ghost use Rattle.std.specs.Prelude.{◌≡◌, List, [], true, OnOk, OnErr, not, find, length, slice_get};
 ghost use Rattle.smil_model.specs.Rising.{IsRising, IsPlaceFrom, put_in, taken_out};
 
 use super::instant::Instant;
@@ -8,12 +8,26 @@ use smil_model::Duplicate;
 use std::alloc::{AllocError, Global};
 use std::marker::Model;
 
-// How many of the rising values are less than the value.
+// How many of the rising values are less than the value. Mostly all are, as the last one tells.
 fn place_from<T: Instant>(values: &[T], value: T) -> usize
     requires { IsRising T.at_most values.now }
     ensures { IsPlaceFrom T.at_most values.now value result }
 {
+    if is_after_last(values, value) {
+        return values.len();
+    }
     values.partition_point(|other| other.is_before(value))
+}
+
+// Whether there is a last of the rising values and the value is greater.
+fn is_after_last<T: Instant>(values: &[T], value: T) -> bool
+    requires { IsRising T.at_most values.now }
+    ensures { result ≡ true → IsPlaceFrom T.at_most values.now value (length values.now) }
+{
+    match values.last() {
+        Some(last) => last.is_before(value),
+        None => false,
+    }
 }
 
 /// Puts a value in its place among rising ones. Where memory runs out they are as before.

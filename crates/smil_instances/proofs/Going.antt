@@ -8,14 +8,37 @@ use Rattle.smil_laws.proofs.Lists.{each_push, each_weaker}
 use Rattle.smil_model.specs.diary.Diary.{History}
 use Rattle.smil_instance_rows.specs.declared.cell.Add.{Add}
 use Rattle.smil_instance_rows.specs.declared.cell.Cell.{Cell}
-use Rattle.smil_instance_rows.specs.declared.notes.RowNote.{RowNote}
 use Rattle.smil_instance_rows.specs.Cells.{list_of, with_list}
 use Rattle.smil_instance_rows.specs.Rows.{ElementTimes}
 use Rattle.smil_instance_rows.specs.Changes.{cell_of, no_row, row_at, with_add, with_adds, with_cell}
 use Rattle.smil_instance_rows.specs.Notes.{EachGoes, Goes, GoesBackTheSame, HasNoted, MarkedRows, is_noted, rows_back}
 use Rattle.smil_instance_rows.proofs.Noted.{adds_go, cell_hidden, cell_stays, has_both}
 use Rattle.smil_instances.specs.Intake.{remaining_at, with_remainder, with_remainders, with_trims}
-use Rattle.smil_instances.specs.Noted.{AreNoted, IsNoted}
+use Rattle.smil_instances.specs.Noted.{AreNoted, IsNoted, KeepAll, trimmed}
+
+-- ---- rows from which nothing is to be taken out
+
+-- the cells of adds are trimmed one after another
+trims_are : (h : History) (now : List ElementTimes) (adds : List Add) → with_trims h now adds ≡ with_remainders h now (map (λ (a : Add). a.cell) adds)
+trims_are h now [] = refl
+trims_are h now (a ∷ adds) = trims_are h (with_remainder h now a.cell) adds
+
+module _ (h : History) (rows : List ElementTimes) where
+  -- where all is still kept, to trim changes nothing
+  all_kept : (cells : List Cell) → KeepAll h rows cells → with_remainders h rows cells ≡ rows
+  all_kept [] each = refl
+  all_kept (c ∷ cs) each =
+      ap (λ rs. with_remainders h rs cs) (ap (with_cell rows c) each.0 ∙ cell_stays rows c)
+      ∙ all_kept cs each.1
+
+  -- so the rows are what trimming makes of them
+  pub nothing_lost : (t : Bool) (cells : List Cell) (adds : List Add) (settled : List ElementTimes) → KeepAll h rows (trimmed t cells adds) → (t ≡ true → with_remainders h rows cells ≡ settled) → (t ≡ false → with_trims h rows adds ≡ settled) → rows ≡ settled
+  nothing_lost true cells adds settled kept born other = sym (all_kept cells kept) ∙ born refl
+  nothing_lost false cells adds settled kept born other =
+      sym (trims_are h rows adds ∙ all_kept (map (λ (a : Add). a.cell) adds) kept)
+      ∙ other refl
+
+-- ---- rows that go back
 
 module _ (h : History) (rows : List ElementTimes) (noted : MarkedRows) where
   -- but for noted ones they are the same rows
@@ -57,12 +80,8 @@ module _ (h : History) (rows : List ElementTimes) (noted : MarkedRows) where
   trims_go cells each = all_go rows cells (λ r free. refl) each
 
   -- so do the items that got something
-  trims_are : (now : List ElementTimes) (adds : List Add) → with_trims h now adds ≡ with_remainders h now (map (λ (a : Add). a.cell) adds)
-  trims_are now [] = refl
-  trims_are now (a ∷ adds) = trims_are (with_remainder h now a.cell) adds
-
   pub added_go : (adds : List Add) → AreNoted h rows noted.notes (map (λ (a : Add). a.cell) adds) → rows_back (with_trims h rows adds) noted ≡ rows_back rows noted
-  added_go adds each = ap (λ rs. rows_back rs noted) (trims_are rows adds) ∙ trims_go (map (λ (a : Add). a.cell) adds) each
+  added_go adds each = ap (λ rs. rows_back rs noted) (trims_are h rows adds) ∙ trims_go (map (λ (a : Add). a.cell) adds) each
 
 -- ---- items that are noted one after another
 
@@ -72,14 +91,19 @@ each_next P Q xs i d inside so each one =
     subst (AllByRecursion Q) (sym (take_more xs i d inside))
     (each_push Q (take i xs) (get_or xs i d) (each_weaker P Q (take i xs) each so) one)
 
+-- what holds of the first ones and of the next holds of one more
+pub each_more : {A : Type 0} (P : A → Type 0) (xs : List A) (i : ℕ) (d : A) → i < length xs → AllByRecursion P (take i xs) → P (get_or xs i d) → AllByRecursion P (take (i + 1) xs)
+each_more P xs i d inside each one = each_next P P xs i d inside (λ x p. p) each one
+
 -- an item whose row is noted stays so
 pub still_noted : (h : History) (rows : List ElementTimes) (noted now : MarkedRows) → HasNoted rows noted now → (cell : Cell) → IsNoted h rows noted.notes cell → IsNoted h rows now.notes cell
 still_noted h rows noted now more cell (inl there) = inl (more.still cell.row there)
 still_noted h rows noted now more cell (inr kept) = inr kept
 
-pub cells_noted : (h : History) (rows : List ElementTimes) (notes : List RowNote) (adds : List Add) → AllByRecursion (λ (a : Add). IsNoted h rows notes a.cell) adds → AreNoted h rows notes (map (λ (a : Add). a.cell) adds)
-cells_noted h rows notes [] each = tt
-cells_noted h rows notes (a ∷ adds) each = (each.0, cells_noted h rows notes adds each.1)
+-- what holds of the cell of each add holds of all these cells
+pub each_cell : (P : Cell → Type 0) (adds : List Add) → AllByRecursion (λ (a : Add). P a.cell) adds → AllByRecursion P (map (λ (a : Add). a.cell) adds)
+each_cell P [] each = tt
+each_cell P (a ∷ adds) each = (each.0, each_cell P adds each.1)
 
 -- what goes back goes still where more is noted
 pub still_goes : (rows : List ElementTimes) (noted now : MarkedRows) → HasNoted rows noted now → (place : ℕ) (add : Add) → Goes noted.notes place add → Goes now.notes place add

@@ -20,10 +20,16 @@ kept_by Last kept = last_alone kept
 kept_by (From place) kept = from_place place kept
 kept_by All kept = kept
 
+-- all is still kept for the item
+abbrev pub KeepsAll : History → List ElementTimes → Cell → Type 0
+KeepsAll h rows cell = remaining_at h cell (cell_of rows cell) ≡ cell_of rows cell
+
+abbrev pub KeepAll : History → List ElementTimes → List Cell → Type 0
+KeepAll h rows cells = AllByRecursion (KeepsAll h rows) cells
+
 -- the row of the item is noted, or all is still kept for it
 abbrev pub IsNoted : History → List ElementTimes → List RowNote → Cell → Type 0
-IsNoted h rows notes cell =
-    (is_noted notes cell.row ≡ true) ⊎ (remaining_at h cell (cell_of rows cell) ≡ cell_of rows cell)
+IsNoted h rows notes cell = (is_noted notes cell.row ≡ true) ⊎ KeepsAll h rows cell
 
 abbrev pub AreNoted : History → List ElementTimes → List RowNote → List Cell → Type 0
 AreNoted h rows notes cells = AllByRecursion (IsNoted h rows notes) cells

@@ -1,6 +1,6 @@
 //! The last entry of a diary taken into the rows.
 
-ghost use Rattle.std.specs.Prelude.{◌≡◌, ℕ, List, [], ◌∷◌, ◌++◌, OnOk, OnErr, Some};
+ghost use Rattle.std.specs.Prelude.{◌≡◌, ℕ, List, [], ◌∷◌, ◌++◌, OnOk, OnErr, IfOk, Some, false};
 ghost use Rattle.smil_model.specs.declared.diary.Entry.{Entry as AnyEntry};
 ghost use Rattle.smil_model.specs.reach.Reach.{key_of, subject_of};
 ghost use Rattle.smil_laws.specs.Resolved.{is_opening};
@@ -8,7 +8,7 @@ ghost use Rattle.smil_instances.specs.SettledTimes.{settled_rows};
 ghost use Rattle.smil_instances.specs.Sources.{AreThose};
 ghost use Rattle.smil_instances.specs.Entry.{HasArrived, HasDependents};
 ghost use Rattle.smil_instances.specs.Intake.{history_with, is_concerned_cell, keyed_by, AreRowsOf, AreToItems, HaveItems};
-ghost use Rattle.smil_instances.specs.Noted.{AreNoted, trimmed};
+ghost use Rattle.smil_instances.specs.Noted.{AreNoted, KeepAll, trimmed};
 ghost use Rattle.smil_instance_rows.specs.Changes.{Fits, with_adds};
 ghost use Rattle.smil_instance_rows.specs.Notes.{GoesBackTheSame, HasNoted};
 
@@ -49,7 +49,10 @@ pub(crate) fn take_in(
     let entry = arrival.last_entry();
     let cells = concerned(rows, arrival, entry.step);
     adds_of(rows, cells, arrival, adds)?;
-    add_noted(rows, cells, adds.as_slice(), arrival, notes)?;
+    let loses = add_noted(rows, cells, adds.as_slice(), arrival, notes)?;
+    if !loses {
+        return Ok(());
+    }
     // Only a birth makes that less is kept for an item to which nothing is added.
     if is_birth(entry.step) {
         trim_each(rows, cells, arrival);
@@ -61,14 +64,14 @@ pub(crate) fn take_in(
 
 // Makes these adds, which are what the last entry gives to these cells. Where there is a mark, notes
 // the rows that get times of places before it, and those from which something is to be taken out
-// then; where memory runs out the rows are as before.
+// then; where memory runs out the rows are as before. Whether something may be to be taken out.
 fn add_noted(
     rows: &mut Rows,
     cells: &[Cell],
     adds: &[Add],
     arrival: &Arrival<'_>,
     notes: &mut RowNotes,
-) -> Result<(), AllocError>
+) -> Result<bool, AllocError>
     requires hand { HasArrived arrival.now }
     requires dependents { HasDependents arrival.now }
     requires rows { AreRowsOf arrival.now.history.tree.now.nodes rows.old }
@@ -82,11 +85,15 @@ fn add_noted(
         → arrival.now.history.book.now ≡ before ++ y ∷ [] → notes.old.mark ≡ Some place
         → AreNoted (history_with arrival.now.history arrival.now.history.book.now) rows.new
         notes.new.notes (trimmed (is_opening y.step) cells.now adds.now)) }
+    ensures kept { IfOk result (λ loses. loses ≡ false → (before : List AnyEntry) (y : AnyEntry)
+        → arrival.now.history.book.now ≡ before ++ y ∷ []
+        → KeepAll (history_with arrival.now.history arrival.now.history.book.now) rows.new
+        (trimmed (is_opening y.step) cells.now adds.now)) }
 {
     note_adds(rows, adds, notes)?;
     add_each(rows, adds)?;
     match note_losses(rows, cells, adds, arrival, notes) {
-        Ok(()) => Ok(()),
+        Ok(loses) => Ok(loses),
         Err(error) => {
             undo_each(rows, adds, adds.len());
             Err(error)
@@ -94,14 +101,15 @@ fn add_noted(
     }
 }
 
-// Where there is a mark, notes the rows from which something is to be taken out.
+// Where there is a mark, notes the rows from which something is to be taken out; whether something
+// may be.
 fn note_losses(
     rows: &Rows,
     cells: &[Cell],
     adds: &[Add],
     arrival: &Arrival<'_>,
     notes: &mut RowNotes,
-) -> Result<(), AllocError>
+) -> Result<bool, AllocError>
     requires hand { HasArrived arrival.now }
     requires dependents { HasDependents arrival.now }
     requires rows { AreRowsOf arrival.now.history.tree.now.nodes rows.now }
@@ -112,9 +120,13 @@ fn note_losses(
         → arrival.now.history.book.now ≡ before ++ y ∷ [] → notes.old.mark ≡ Some place
         → AreNoted (history_with arrival.now.history arrival.now.history.book.now) rows.now
         notes.new.notes (trimmed (is_opening y.step) cells.now adds.now)) }
+    ensures kept { IfOk result (λ loses. loses ≡ false → (before : List AnyEntry) (y : AnyEntry)
+        → arrival.now.history.book.now ≡ before ++ y ∷ []
+        → KeepAll (history_with arrival.now.history arrival.now.history.book.now) rows.now
+        (trimmed (is_opening y.step) cells.now adds.now)) }
 {
     if notes.place().is_none() {
-        return Ok(());
+        return Ok(true);
     }
     if is_birth(arrival.last_entry().step) {
         note_each(rows, cells, arrival, notes)

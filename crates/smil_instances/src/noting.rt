@@ -1,13 +1,13 @@
 //! Rows that are noted before the last entry of a diary changes them.
 
-ghost use Rattle.std.specs.Prelude.{◌≡◌, List, OnOk, false, map};
+ghost use Rattle.std.specs.Prelude.{◌≡◌, List, OnOk, IfOk, false, map};
 ghost use Rattle.smil_model.specs.declared.diary.LogEntry.{LogEntry as AnyLogEntry};
 ghost use Rattle.smil_instance_rows.specs.declared.cell.Add.{Add as AnyAdd};
-ghost use Rattle.smil_instance_rows.specs.Changes.{Fits, cell_of};
+ghost use Rattle.smil_instance_rows.specs.Changes.{Fits};
 ghost use Rattle.smil_instance_rows.specs.Notes.{EachGoes, HasNoted};
 ghost use Rattle.smil_instances.specs.Entry.{HasDependents};
-ghost use Rattle.smil_instances.specs.Intake.{history_of, remaining_at, AreRowsOf, AreToItems, HasItem, HaveItems};
-ghost use Rattle.smil_instances.specs.Noted.{AreNoted, IsNoted};
+ghost use Rattle.smil_instances.specs.Intake.{history_of, AreRowsOf, AreToItems, HasItem, HaveItems};
+ghost use Rattle.smil_instances.specs.Noted.{AreNoted, IsNoted, KeepAll, KeepsAll};
 
 use super::arrival::Arrival;
 use super::items::CellItem;
@@ -35,13 +35,13 @@ pub(crate) fn note_adds(rows: &Rows, adds: &[Add], notes: &mut RowNotes) -> Resu
 }
 
 /// Notes the rows of those of these items from which something is to be taken out, unless memory
-/// runs out.
+/// runs out; whether something may be.
 pub(crate) fn note_each(
     rows: &Rows,
     cells: &[Cell],
     arrival: &Arrival<'_>,
     notes: &mut RowNotes,
-) -> Result<(), AllocError>
+) -> Result<bool, AllocError>
     requires cells { HaveItems arrival.now.history.tree.now.nodes cells.now }
     requires dependents { HasDependents arrival.now }
     requires rows { AreRowsOf arrival.now.history.tree.now.nodes rows.now }
@@ -49,21 +49,25 @@ pub(crate) fn note_each(
     ensures each { OnOk result ((log : List AnyLogEntry) → AreNoted
         (history_of arrival.now.history.tree.now log arrival.now.history.book.now) rows.now
         notes.new.notes cells.now) }
+    ensures kept { IfOk result (λ loses. loses ≡ false → (log : List AnyLogEntry) → KeepAll
+        (history_of arrival.now.history.tree.now log arrival.now.history.book.now) rows.now
+        cells.now) }
 {
+    let mut loses = false;
     for cell in cells {
-        note_at(rows, *cell, arrival, notes)?;
+        loses |= note_at(rows, *cell, arrival, notes)?;
     }
-    Ok(())
+    Ok(loses)
 }
 
 /// Notes the rows of those of the items that got something from which something is to be taken out,
-/// unless memory runs out.
+/// unless memory runs out; whether something may be.
 pub(crate) fn note_added(
     rows: &Rows,
     adds: &[Add],
     arrival: &Arrival<'_>,
     notes: &mut RowNotes,
-) -> Result<(), AllocError>
+) -> Result<bool, AllocError>
     requires items { AreToItems arrival.now.history.tree.now.nodes adds.now }
     requires dependents { HasDependents arrival.now }
     requires rows { AreRowsOf arrival.now.history.tree.now.nodes rows.now }
@@ -71,20 +75,25 @@ pub(crate) fn note_added(
     ensures each { OnOk result ((log : List AnyLogEntry) → AreNoted
         (history_of arrival.now.history.tree.now log arrival.now.history.book.now) rows.now
         notes.new.notes (map (λ (a : AnyAdd). a.cell) adds.now)) }
+    ensures kept { IfOk result (λ loses. loses ≡ false → (log : List AnyLogEntry) → KeepAll
+        (history_of arrival.now.history.tree.now log arrival.now.history.book.now) rows.now
+        (map (λ (a : AnyAdd). a.cell) adds.now)) }
 {
+    let mut loses = false;
     for add in adds {
-        note_at(rows, add.cell, arrival, notes)?;
+        loses |= note_at(rows, add.cell, arrival, notes)?;
     }
-    Ok(())
+    Ok(loses)
 }
 
-// Notes the row of an item if something is to be taken out of it.
+// Notes the row of an item if something is to be taken out of it; whether something may be.
+#[inline(always)]
 fn note_at(
     rows: &Rows,
     cell: Cell,
     arrival: &Arrival<'_>,
     notes: &mut RowNotes,
-) -> Result<(), AllocError>
+) -> Result<bool, AllocError>
     requires cell { HasItem arrival.now.history.tree.now.nodes cell }
     requires dependents { HasDependents arrival.now }
     requires rows { AreRowsOf arrival.now.history.tree.now.nodes rows.now }
@@ -92,11 +101,17 @@ fn note_at(
     ensures noted { OnOk result ((log : List AnyLogEntry) → IsNoted
         (history_of arrival.now.history.tree.now log arrival.now.history.book.now) rows.now
         notes.new.notes cell) }
+    ensures kept { IfOk result (λ loses. loses ≡ false → (log : List AnyLogEntry) → KeepsAll
+        (history_of arrival.now.history.tree.now log arrival.now.history.book.now) rows.now cell) }
 {
-    if notes.is_noted(cell.row) || !loses(rows, cell, arrival) {
-        return Ok(());
+    if notes.is_noted(cell.row) {
+        return Ok(true);
     }
-    notes.note(rows, cell.row)
+    if !loses(rows, cell, arrival) {
+        return Ok(false);
+    }
+    notes.note(rows, cell.row)?;
+    Ok(true)
 }
 
 // Whether something is to be taken out of an item.
@@ -104,9 +119,8 @@ fn loses(rows: &Rows, cell: Cell, arrival: &Arrival<'_>) -> bool
     requires cell { HasItem arrival.now.history.tree.now.nodes cell }
     requires dependents { HasDependents arrival.now }
     requires rows { AreRowsOf arrival.now.history.tree.now.nodes rows.now }
-    ensures { result ≡ false → (log : List AnyLogEntry) → remaining_at
-        (history_of arrival.now.history.tree.now log arrival.now.history.book.now) cell
-        (cell_of rows.now cell) ≡ cell_of rows.now cell }
+    ensures { result ≡ false → (log : List AnyLogEntry) → KeepsAll
+        (history_of arrival.now.history.tree.now log arrival.now.history.book.now) rows.now cell }
 {
     arrival.history.tree.valid();
     bases_are_elements();

@@ -94,6 +94,7 @@ fn trim(rows: &mut Rows, own: CellItem, tree: &Tree, book: &Book)
 }
 
 /// What is kept for the item of a cell, by the births in the book. It takes no memory.
+#[inline(always)]
 pub(crate) fn remainder_of(own: CellItem, tree: &Tree, book: &Book) -> Remainder
     requires cell { IsCellOf tree.now.nodes own.cell own.who own.source }
     requires base { (of : ℕ) → base_of own.source ≡ Some of → IsSome (node_at tree.now.nodes of) }

@@ -190,6 +190,7 @@ impl Plays {
     }
 
     // Takes in a birth, or else an end, of the time children of an element.
+    #[inline(always)]
     fn turn_children(&mut self, tree: &Tree, who: u32, birth: bool)
         ensures { AreAfterParent (time_children tree.now.nodes who) birth self.old self.new }
     {

@@ -89,6 +89,7 @@ fn leave(playing: &mut [Queue], tree: &Tree, who: u32)
 }
 
 // The place of the time parent of a node, where it is an excl.
+#[inline(always)]
 fn excl_place(tree: &Tree, who: u32) -> Option<usize>
     requires { IsSome (node_at tree.now.nodes who) }
     ensures { result ≡ excl_place_of tree.now.nodes who }

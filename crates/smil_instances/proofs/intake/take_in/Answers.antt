@@ -9,9 +9,9 @@ use Rattle.smil_instances.specs.Sources.{AreThose}
 use Rattle.smil_instance_rows.specs.Changes.{with_adds, Fits}
 use Rattle.smil_instances.specs.Intake.{adds_to, history_of, is_concerned_cell, shape_of, with_remainders, with_trims, AreToItems}
 use Rattle.smil_instance_rows.specs.Notes.{rows_back}
-use Rattle.smil_instances.specs.Noted.{AreNoted, trimmed}
+use Rattle.smil_instances.specs.Noted.{AreNoted, KeepAll, trimmed}
 use Rattle.smil_instances.proofs.RowShapes.{settled_shape}
-use Rattle.smil_instances.proofs.Going.{added_go, trims_go}
+use Rattle.smil_instances.proofs.Going.{added_go, nothing_lost, trims_go}
 use Rattle.smil_instances.proofs.BeforeEntry.{at_hand, timely}
 use Rattle.smil_instances.proofs.RowsAfterEntry.{adds_fit, adds_to_items, taken_in, taken_in_added, those_have_items}
 use Rattle.smil_instances.proofs.CellUpdates.{adds_shape}
@@ -76,7 +76,7 @@ trim_each-requires-clause-cells c =
 pub trim_each-requires-clause-rows : goal.trim_each-requires-clause-rows
 trim_each-requires-clause-rows c =
     let hand = c.requires.hand in
-    ap (map shape_of) c.in_ok-add_noted.ensures.ok
+    ap (map shape_of) c.in_ok-loses.ensures.ok
     ∙ adds_shape c.args.rows.now c.as_slice.result.now
     ∙ ap (map shape_of) (c.requires.rows hand.past.diary hand.entry hand.is_entry.same_diary)
     ∙ settled_shape (history_of c.args.arrival.now.history.tree.now c.args.arrival.now.history.log.now hand.past.diary)
@@ -98,10 +98,42 @@ trim_added-requires-clause-items c =
 pub trim_added-requires-clause-rows : goal.trim_added-requires-clause-rows
 trim_added-requires-clause-rows c =
     let hand = c.requires.hand in
-    ap (map shape_of) c.in_ok-add_noted.ensures.ok
+    ap (map shape_of) c.in_ok-loses.ensures.ok
     ∙ adds_shape c.args.rows.now c.as_slice.result.now
     ∙ ap (map shape_of) (c.requires.rows hand.past.diary hand.entry hand.is_entry.same_diary)
     ∙ settled_shape (history_of c.args.arrival.now.history.tree.now c.args.arrival.now.history.log.now hand.past.diary)
+
+pub returns-then-not-loses-clause-ok : goal.returns-then-not-loses-clause-ok
+returns-then-not-loses-clause-ok c =
+    let hand = c.requires.hand in
+    let before = hand.past.diary in
+    let y = hand.entry in
+    let q = hand.is_entry.same_diary in
+    let document = c.args.arrival.now.history.tree.now in
+    let log = c.args.arrival.now.history.log.now in
+    let book = c.args.arrival.now.history.book.now in
+    let rows = c.args.rows.now in
+    let cells = c.concerned-cells.result.now in
+    let past = history_of document log before in
+    let now = history_of document log book in
+    let those = subst (λ (z : Entry). AreThose (is_concerned_cell document.nodes (is_opening z.step) (subject_of log z.step) (key_of log z.step)) cells) (c.last_entry-entry.ensures.value before y q) c.concerned-cells.ensures.those in
+    let adds = adds_to past y cells in
+    let added = with_adds rows adds in
+    let opening = is_opening y.step in
+    let got : c.as_slice.result.now ≡ adds = c.as_slice.ensures.value ∙ c.in_ok-adds_of.ensures before y q in
+    let made : c.add_noted.new.rows ≡ added = c.in_ok-loses.ensures.ok ∙ ap (with_adds rows) got in
+    let few = c.in_ok-loses.ensures.kept c.if-not-loses.true before y q in
+    let kept = subst (λ rs. KeepAll now rs (trimmed opening cells adds)) made (subst (λ more. KeepAll now c.add_noted.new.rows (trimmed opening cells more)) got few) in
+    let up_to = timely past y document c.args.arrival.now.clocks.now log book (at_hand document c.args.arrival.now.clocks.now log book before y hand q) in
+    made
+    ∙ nothing_lost now added opening cells adds (settled_rows now) kept
+    (λ opened. subst (λ (diary : List Entry). with_remainders (history_of document log diary) added cells ≡ settled_rows (history_of document log diary)) (sym q)
+    (taken_in document.nodes log before y cells those rows (c.requires.rows before y q) c.entries_are_taken_in.ensures c.only_concerned_items_change.ensures up_to))
+    (λ closed. subst (λ (diary : List Entry). with_trims (history_of document log diary) added adds ≡ settled_rows (history_of document log diary)) (sym q)
+    (taken_in_added document.nodes log before y cells those rows (c.requires.rows before y q) closed c.entries_are_taken_in.ensures c.only_concerned_items_change.ensures up_to))
+
+pub returns-then-not-loses-clause-back : goal.returns-then-not-loses-clause-back
+returns-then-not-loses-clause-back c = c.add_noted.ensures.back
 
 pub returns-then-is_birth-clause-ok : goal.returns-then-is_birth-clause-ok
 returns-then-is_birth-clause-ok c =
@@ -118,7 +150,7 @@ returns-then-is_birth-clause-ok c =
     let those = subst (λ (z : Entry). AreThose (is_concerned_cell document.nodes (is_opening z.step) (subject_of log z.step) (key_of log z.step)) cells) (c.last_entry-entry.ensures.value before y q) c.concerned-cells.ensures.those in
     let added = with_adds rows (adds_to past y cells) in
     c.trim_each.ensures log
-    ∙ ap (λ rs. with_remainders (history_of document log book) rs cells) (c.in_ok-add_noted.ensures.ok ∙ ap (with_adds rows) (c.as_slice.ensures.value ∙ c.in_ok-adds_of.ensures before y q))
+    ∙ ap (λ rs. with_remainders (history_of document log book) rs cells) (c.in_ok-loses.ensures.ok ∙ ap (with_adds rows) (c.as_slice.ensures.value ∙ c.in_ok-adds_of.ensures before y q))
     ∙ subst (λ (diary : List Entry). with_remainders (history_of document log diary) added cells ≡ settled_rows (history_of document log diary)) (sym q)
     (taken_in document.nodes log before y cells those rows (c.requires.rows before y q) c.entries_are_taken_in.ensures c.only_concerned_items_change.ensures
     (timely past y document c.args.arrival.now.clocks.now log book (at_hand document c.args.arrival.now.clocks.now log book before y hand q)))
@@ -142,7 +174,7 @@ returns-else-is_birth-clause-ok c =
     let now = history_of document log book in
     c.trim_added.ensures log
     ∙ ap (λ (more : List Add). with_trims now c.add_noted.new.rows more) (c.as_slice-else-is_birth.ensures.value ∙ c.in_ok-adds_of.ensures before y q)
-    ∙ ap (λ rs. with_trims now rs adds) (c.in_ok-add_noted.ensures.ok ∙ ap (with_adds rows) (c.as_slice.ensures.value ∙ c.in_ok-adds_of.ensures before y q))
+    ∙ ap (λ rs. with_trims now rs adds) (c.in_ok-loses.ensures.ok ∙ ap (with_adds rows) (c.as_slice.ensures.value ∙ c.in_ok-adds_of.ensures before y q))
     ∙ subst (λ (diary : List Entry). with_trims (history_of document log diary) added adds ≡ settled_rows (history_of document log diary)) (sym q)
     (taken_in_added document.nodes log before y cells those rows (c.requires.rows before y q) closed c.entries_are_taken_in.ensures c.only_concerned_items_change.ensures
     (timely past y document c.args.arrival.now.clocks.now log book (at_hand document c.args.arrival.now.clocks.now log book before y hand q)))
@@ -167,7 +199,7 @@ returns-then-is_birth-clause-back c =
       mark = noted.mark;
       back = λ place is.
           ap (λ rs. rows_back rs notes) (c.trim_each.ensures log)
-          ∙ trims_go now rows notes cells (subst (λ t. AreNoted now rows notes.notes (trimmed t cells c.as_slice.result.now)) opened (c.in_ok-add_noted.ensures.noted before y place q is))
+          ∙ trims_go now rows notes cells (subst (λ t. AreNoted now rows notes.notes (trimmed t cells c.as_slice.result.now)) opened (c.in_ok-loses.ensures.noted before y place q is))
           ∙ noted.back place is;
     }
 
@@ -189,6 +221,6 @@ returns-else-is_birth-clause-back c =
       mark = noted.mark;
       back = λ place is.
           ap (λ rs. rows_back rs notes) (c.trim_added.ensures log ∙ ap (with_trims now rows) (c.as_slice-else-is_birth.ensures.value ∙ sym c.as_slice.ensures.value))
-          ∙ added_go now rows notes adds (subst (λ t. AreNoted now rows notes.notes (trimmed t cells adds)) closed (c.in_ok-add_noted.ensures.noted before y place q is))
+          ∙ added_go now rows notes adds (subst (λ t. AreNoted now rows notes.notes (trimmed t cells adds)) closed (c.in_ok-loses.ensures.noted before y place q is))
           ∙ noted.back place is;
     }
