@@ -34,6 +34,7 @@ pub struct DueChanges {
 /// What comes of an element by its interval and its simple duration, at a moment: its begin, or its
 /// end and its repeat. `place` is its place among the elements in document order, from 0. The
 /// numbers of the interval are from -10^12 to 10^12. It takes no memory.
+#[inline(always)]
 pub fn comings_of(subject: &Subject<'_>, place: u32, made: &Evaluation) -> DueChanges
     requires found { IsFound subject.now }
     requires near { IfSome made.now.interval IsIntervalNear }
@@ -175,6 +176,7 @@ fn repeats(makeup: &Makeup) -> bool
 
 // The repeat of an element that may repeat, where its iteration ends at a number and another
 // follows.
+#[inline(never)]
 fn repeat_at(subject: &Subject<'_>, place: u32, simple: Time) -> Option<DueChange>
     requires { IsFound subject.now }
     ensures { (e : AnyNode)

@@ -34,6 +34,7 @@ pub struct Subject<'a> {
 
 /// An element at a moment, with what is found of it. It takes a look-up for each thing found, and
 /// no memory.
+#[inline(always)]
 pub fn subject_of<'a>(present: &Present<'a>) -> Subject<'a>
     requires element { has_element present.now.past.now.document.nodes present.now.who ≡ true }
     requires moment { IsPresent present.now.past.now present.now.moment }

@@ -11,6 +11,7 @@ use smil_duration::Bounds;
 use smil_model::{EndList, Facts, Interval, Restart, Time, greatest, later, least, moved};
 
 /// The interval that begins at `begin`, None where no interval begins there.
+#[inline(always)]
 pub fn interval_at(facts: &Facts, begins: &[i64], ends: &[Time], begin: i64) -> Option<Interval>
     requires begins_rise { IsRising begins.now }
     requires ends_rise { IsRisingTimes ends.now }

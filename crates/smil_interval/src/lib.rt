@@ -22,6 +22,7 @@ pub use steps::Steps;
 /// counted. It is that of the present play where the element is active, and the first or next one
 /// where the element is alive and neither active nor deferred; any other element has none. `begins`
 /// and `ends` are its instance times, the expected ones among them. SMIL 3.0, "Element life-cycle".
+#[inline(always)]
 pub fn evaluate<L: Ledger>(
     begins: &[i64],
     ends: &[Time],

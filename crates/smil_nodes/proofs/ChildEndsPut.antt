@@ -1,6 +1,6 @@
 -- Endings that are put among the ends of time children.
 use Rattle.std.proofs.Common.{◌≡◌, refl, ◌∙◌, ap, sym, ℕ, zero, suc, List, [], ◌∷◌, length, map, Option, Some, None, Bool, true, false}
-use Rattle.std.specs.Prelude.{nat_eq, slice_get, slice_index_or}
+use Rattle.std.specs.Prelude.{is_some, nat_eq, slice_get, slice_index_or}
 use Rattle.std.proofs.lemmas.Bool.{eqb-true, eqb-false}
 use Rattle.smil_model.specs.declared.times.Time.{Time}
 use Rattle.smil_model.specs.declared.interval.ChildEnd.{ChildEnd}
@@ -122,6 +122,14 @@ home_back ends (Some h) = among_back ends h.container h.child
 -- to put the ending that is there changes nothing
 pub put_back : (kept : KeptEnds) (q : ℕ) → put_ending kept q (ending_in kept q) ≡ kept
 put_back kept q = λ i. record { homes = kept.homes; ends = home_back kept.ends (home_at kept.homes q) i }
+
+-- what is put where no ending is kept does not matter
+pub put_nowhere : (kept : KeptEnds) (q : ℕ) (x y : Ending) → is_some (home_at kept.homes q) ≡ false → put_ending kept q x ≡ put_ending kept q y
+put_nowhere kept q x y none = λ i. record { homes = kept.homes; ends = by_home (home_at kept.homes q) none i }
+  where
+    by_home : (o : Option Home) → is_some o ≡ false → put_home kept.ends x o ≡ put_home kept.ends y o
+    by_home None nowhere = refl
+    by_home (Some home) nowhere = absurd (cc)
 
 -- after one ending is put in either case, an ending put elsewhere or in the same place leaves both the same
 home_over : (xs ys : List (List ChildEnd)) (o p : Option Home) (w z : Ending) → ((v : Ending) → put_home xs v o ≡ put_home ys v o) → put_home (put_home xs w p) z o ≡ put_home (put_home ys w p) z o

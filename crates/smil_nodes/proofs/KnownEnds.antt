@@ -88,8 +88,8 @@ module _ (h : History) (kept : KeptEnds) (names : names_of kept.ends ≡ names_o
       ∙ length-map (elements h.nodes) (named_ends h.nodes)
 
 -- the ends of one element's time children, where each of these passes the test
-pub knows : (h : History) (rows : List CurrentRow) (kept : KeptEnds) (test : ℕ → Type 0) (who : ℕ) (e : Node) → IsDistinct h.nodes → AreOfElements h.nodes rows → AreKnown h (interval_in rows) test kept → node_at (elements h.nodes) who ≡ Some e → ((k : ℕ) (c : Node) → slice_get (time_children h.nodes e.serial) k ≡ Some c → test c.serial) → KnowsEnds rows kept h who
-knows h rows kept test who e distinct of_elements are known each = record {
+pub knows : (h : History) (rows : List CurrentRow) (kept : KeptEnds) (test : ℕ → Type 0) (who : ℕ) (e : Node) → IsDistinct h.nodes → AreOfElements h.nodes rows → AreKnown h (interval_in rows) test kept → node_at (elements h.nodes) who ≡ Some e → has_implicit_duration e ≡ true → ((k : ℕ) (c : Node) → slice_get (time_children h.nodes e.serial) k ≡ Some c → test c.serial) → KnowsEnds rows kept h who
+knows h rows kept test who e distinct of_elements are known implicit each = record {
   of_elements = of_elements;
   as_many = as_many h kept are.names;
   ends_are = λ place d here is.
@@ -97,7 +97,7 @@ knows h rows kept test who e distinct of_elements are known each = record {
       let same : Some d ≡ Some e = sym found ∙ known in
       let one : e ≡ d = cc in
       ends_same (child_end h (interval_in rows) d) (slice_index_or kept.ends place []) (time_children h.nodes d.serial) (count_at h kept are.names place d here)
-      (λ k c at. are.right place k d c here at (each k c (ap (λ (n : Node). slice_get (time_children h.nodes n.serial) k) one ∙ at)))
+      (λ k c at. are.right place k d c here (ap has_implicit_duration (sym one) ∙ implicit) at (each k c (ap (λ (n : Node). slice_get (time_children h.nodes n.serial) k) one ∙ at)))
       ∙ ap (λ s. map (child_end h (interval_in rows) d) (time_children h.nodes s)) is;
 }
 
@@ -111,12 +111,13 @@ module _ (h : History) (who : ℕ) (before after : ℕ → Option Interval) (kep
   names_put None = refl
   names_put (Some home) = among_names kept.ends home.container home.child ending
 
-  module _ (names : names_of kept.ends ≡ names_of (map (named_ends h.nodes) (elements h.nodes))) (p k : ℕ) (e c : Node) (at_e : slice_get (elements h.nodes) p ≡ Some e) (at_c : slice_get (time_children h.nodes e.serial) k ≡ Some c) where
+  module _ (names : names_of kept.ends ≡ names_of (map (named_ends h.nodes) (elements h.nodes))) (p k : ℕ) (e c : Node) (at_e : slice_get (elements h.nodes) p ≡ Some e) (implicit : has_implicit_duration e ≡ true) (at_c : slice_get (time_children h.nodes e.serial) k ≡ Some c) where
     -- the ending of the element itself
     own_right : (o : Option Home) → HasHome h.nodes element.serial o → who ≡ c.serial → slice_get (slice_index_or (put_home kept.ends ending o) p []) k ≡ Some (child_end h after e c)
     own_right None none own =
         let of = family h.nodes e.serial k c distinct at_c in
-        let never : None ≡ Some e.serial = sym none ∙ ap (λ s. serial_of (time_parent h.nodes s)) (is_who ∙ own) ∙ of.under in
+        let known : node_at (elements h.nodes) e.serial ≡ Some e = there_at (elements h.nodes) p e (elements_differ h.nodes distinct) at_e in
+        let never : true ≡ false = sym implicit ∙ none e known (ap (λ s. serial_of (time_parent h.nodes s)) (is_who ∙ own) ∙ of.under) in
         absurd (cc)
     own_right (Some home) is own =
         let of = family h.nodes e.serial k c distinct at_c in
@@ -156,15 +157,15 @@ module _ (h : History) (who : ℕ) (before after : ℕ → Option Interval) (kep
   known_next old test was are = record {
     homes = are.homes;
     names = names_put (home_at kept.homes place) ∙ are.names;
-    right = λ p k e c at_e at_c passes. by_test p k e c at_e at_c passes (who == c.serial) refl;
+    right = λ p k e c at_e implicit at_c passes. by_test p k e c at_e implicit at_c passes (who == c.serial) refl;
   }
     where
-      by_test : (p k : ℕ) (e c : Node) → slice_get (elements h.nodes) p ≡ Some e → slice_get (time_children h.nodes e.serial) k ≡ Some c → test c.serial → (t : Bool) → who == c.serial ≡ t → slice_get (slice_index_or (put_home kept.ends ending (home_at kept.homes place)) p []) k ≡ Some (child_end h after e c)
-      by_test p k e c at_e at_c passes true q =
-          own_right are.names p k e c at_e at_c (home_at kept.homes place) (home_each h.nodes (elements h.nodes) kept.homes place element are.homes here) (eqb-true who c.serial q)
-      by_test p k e c at_e at_c passes false q =
-          other_right are.names p k e c at_e at_c (home_at kept.homes place) (home_each h.nodes (elements h.nodes) kept.homes place element are.homes here) q
-          (are.right p k e c at_e at_c (was c.serial q passes))
+      by_test : (p k : ℕ) (e c : Node) → slice_get (elements h.nodes) p ≡ Some e → has_implicit_duration e ≡ true → slice_get (time_children h.nodes e.serial) k ≡ Some c → test c.serial → (t : Bool) → who == c.serial ≡ t → slice_get (slice_index_or (put_home kept.ends ending (home_at kept.homes place)) p []) k ≡ Some (child_end h after e c)
+      by_test p k e c at_e implicit at_c passes true q =
+          own_right are.names p k e c at_e implicit at_c (home_at kept.homes place) (home_each h.nodes (elements h.nodes) kept.homes place element are.homes here) (eqb-true who c.serial q)
+      by_test p k e c at_e implicit at_c passes false q =
+          other_right are.names p k e c at_e implicit at_c (home_at kept.homes place) (home_each h.nodes (elements h.nodes) kept.homes place element are.homes here) q
+          (are.right p k e c at_e implicit at_c (was c.serial q passes))
 
 -- an element was evaluated, and its ending put
 pub known_ended : (h : History) (who : ℕ) (before after : List CurrentRow) (kept new : KeptEnds) (old test : ℕ → Type 0) → IsDistinct h.nodes → ((s : ℕ) → who == s ≡ false → interval_in after s ≡ interval_in before s) → IsEnded h who after kept new → ((s : ℕ) → who == s ≡ false → test s → old s) → AreKnown h (interval_in before) old kept → AreKnown h (interval_in after) test new
@@ -179,7 +180,7 @@ pub known_weaker : (h : History) (given : ℕ → Option Interval) (old test : �
 known_weaker h given old test kept distinct implies are = record {
   homes = are.homes;
   names = are.names;
-  right = λ p k e c at_e at_c passes. are.right p k e c at_e at_c (implies c (family h.nodes e.serial k c distinct at_c).known passes);
+  right = λ p k e c at_e implicit at_c passes. are.right p k e c at_e implicit at_c (implies c (family h.nodes e.serial k c distinct at_c).known passes);
 }
 
 -- none, of ends that are not known
@@ -187,7 +188,7 @@ pub none_known : (h : History) (given : ℕ → Option Interval) (kept : KeptEnd
 none_known h given kept homes ends = record {
   homes = homes;
   names = ap names_of ends;
-  right = λ p k e c at_e at_c never. absurd never;
+  right = λ p k e c at_e implicit at_c never. absurd never;
 }
 
 module _ (h : History) (given : ℕ → Option Interval) (order : List ℕ) (kept : KeptEnds) (distinct : IsDistinct h.nodes) (is : IsGraphOrder h.nodes order) where
@@ -265,10 +266,10 @@ module _ (past : MarkedHistory) (from : ℕ) (order : List ℕ) (listed : ℕ �
   known_first given kept are = record {
     homes = are.homes;
     names = are.names;
-    right = λ p k e c at_e at_c is.
+    right = λ p k e c at_e implicit at_c is.
         let there = (family past.document.nodes e.serial k c ordered.distinct at_c).known in
         let free = (sym (told c.serial is.rank (found_place c.serial order is.rank distinct is.within is.at)) ∙ is.free) in
-        are.right p k e c at_e at_c tt
+        are.right p k e c at_e implicit at_c tt
         ∙ ap Some
         (sym (same_end (front past from) (up_to (front past from) ((front past from).diary ++ drop from past.diary)) given e c
         (all_done c (front past from) (drop from past.diary) ordered.first there free))

@@ -1,5 +1,5 @@
 -- The ends of the time children of each element, and where the ending of each stands.
-use Rattle.std.specs.Prelude.{◌≡◌, ◌==◌, ℕ, zero, suc, ◌<◌, List, [], ◌∷◌, length, map, slice_get, slice_index_or, Bool, Option, Some, None}
+use Rattle.std.specs.Prelude.{◌≡◌, ◌==◌, ℕ, zero, suc, ◌<◌, List, [], ◌∷◌, length, map, slice_get, slice_index_or, Bool, true, false, Option, Some, None}
 use Rattle.std.specs.List.{position}
 use Rattle.std.proofs.Common.{subst, sym}
 use Rattle.smil_model.specs.declared.diary.Entry.{Entry}
@@ -7,6 +7,7 @@ use Rattle.smil_model.specs.declared.document.Node.{Node}
 use Rattle.smil_model.specs.declared.interval.ChildEnd.{ChildEnd}
 use Rattle.smil_model.specs.declared.interval.Interval.{Interval}
 use Rattle.smil_model.specs.document.Document.{elements, node_at, serial_of, time_children, time_parent}
+use Rattle.smil_model.specs.document.Dependencies.{has_implicit_duration}
 use Rattle.smil_model.specs.diary.Diary.{History}
 use Rattle.smil_model.specs.interval.Current.{child_end, is_named_child}
 use Rattle.smil_endsync.specs.Ends.{set_ends}
@@ -42,9 +43,11 @@ pub record IsHome (nodes : List Node) (who : ℕ) (home : Home) : Type 0 where
   pub above : slice_get (elements nodes) home.container ≡ Some container
   pub child : slice_get (time_children nodes container.serial) home.child ≡ Some element
 
--- an element without a time parent has none
+-- an element has none where its time parent, if any, does not last as its time children do
 abbrev pub HasHome : List Node → ℕ → Option Home → Type 0
-HasHome nodes who None = serial_of (time_parent nodes who) ≡ None
+HasHome nodes who None =
+    (e : Node) → node_at (elements nodes) e.serial ≡ Some e
+    → serial_of (time_parent nodes who) ≡ Some e.serial → has_implicit_duration e ≡ false
 HasHome nodes who (Some home) = IsHome nodes who home
 
 -- of these elements of a document, one after another
@@ -68,7 +71,7 @@ abbrev pub put_home : List (List ChildEnd) → Ending → Option Home → List (
 put_home ends ending None = ends
 put_home ends ending (Some home) = put_among ends home.container home.child ending
 
--- an ending is put where it stands; nowhere for an element without a container
+-- an ending is put where it stands; nowhere for an element that has no such place
 abbrev pub put_ending : KeptEnds → ℕ → Ending → KeptEnds
 put_ending kept place ending = record {
   homes = kept.homes;
@@ -102,14 +105,15 @@ named_ends nodes e = map (named_end e) (time_children nodes e.serial)
 abbrev pub names_of : List (List ChildEnd) → List (List Bool)
 names_of ends = map (λ cs. map (λ (c : ChildEnd). c.named) cs) ends
 
--- the ends of those time children that pass a test are those by a history and these intervals
+-- of each element whose duration is implicit the ends of those time children that pass a test are
+-- those by a history and these intervals
 pub record AreKnown (h : History) (given : ℕ → Option Interval) (test : ℕ → Type 0)
     (kept : KeptEnds) : Type 0 where
   pub homes : AreHomes h.nodes kept.homes
   pub names : names_of kept.ends ≡ names_of (map (named_ends h.nodes) (elements h.nodes))
   pub right :
       (place child : ℕ) (e c : Node) → slice_get (elements h.nodes) place ≡ Some e
-      → slice_get (time_children h.nodes e.serial) child ≡ Some c → test c.serial
+      → has_implicit_duration e ≡ true → slice_get (time_children h.nodes e.serial) child ≡ Some c → test c.serial
       → slice_get (slice_index_or kept.ends place []) child ≡ Some (child_end h given e c)
 
 -- no element, and all elements

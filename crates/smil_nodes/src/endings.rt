@@ -1,6 +1,6 @@
 //! The ends of the time children of each element, kept while the endings of elements change.
 
-ghost use Rattle.std.specs.Prelude.{◌≡◌, ◌↔◌, ◌<◌, ◌&&◌, [], Some, true, length, map, slice_get, slice_index_or, IfOk, IsTrue};
+ghost use Rattle.std.specs.Prelude.{◌≡◌, ◌↔◌, ◌<◌, ◌&&◌, [], Some, true, is_some, length, map, slice_get, slice_index_or, IfOk, IsTrue};
 ghost use Rattle.smil_model.specs.declared.document.Node.{Node as AnyNode};
 ghost use Rattle.smil_model.specs.document.Document.{elements, node_at};
 ghost use Rattle.smil_model.specs.document.Closure.{has};
@@ -31,7 +31,8 @@ pub struct Home {
 }
 
 /// Of the elements of a document, in document order, the ends of the time children of each, and
-/// where its own ending stands among those of its container; seen as both lists.
+/// where its own ending stands among those of its container, if the duration of that follows from
+/// them; seen as both lists.
 pub struct Endings {
     homes: Vec<Option<Home>>,
     ends: Vec<Ends>,
@@ -81,8 +82,16 @@ impl Endings {
         })
     }
 
-    /// The ending of the element with an index; one without ends where the element has no
-    /// container. It takes no memory.
+    /// Whether the ending of the element with an index is kept, as its container's duration follows
+    /// from it. It takes no memory.
+    pub fn keeps(&self, index: usize) -> bool
+        ensures { result ≡ is_some (home_at self.now.homes index) }
+    {
+        home_in(&self.homes, index).is_some()
+    }
+
+    /// The ending of the element with an index; one without ends where it is not kept. It takes no
+    /// memory.
     pub fn ending(&self, index: usize) -> Ending
         ensures { result ≡ ending_in self.now index }
     {
@@ -101,8 +110,8 @@ impl Endings {
         }
     }
 
-    /// Puts the ending of the element with an index; where it has no container nothing changes. It
-    /// takes log n steps for n time children of the container, and no memory.
+    /// Puts the ending of the element with an index; where it is not kept nothing changes. It takes
+    /// log n steps for n time children of the container, and no memory.
     pub fn put(&mut self, index: usize, ending: Ending)
         ensures { self.new ≡ put_ending self.old index ending }
     {
@@ -125,7 +134,7 @@ impl Endings {
     }
 }
 
-// Where the ending of the element with an index stands.
+// Where the ending of the element with an index stands; None where it is not kept.
 fn home_in(homes: &[Option<Home>], index: usize) -> Option<Home>
     ensures { result ≡ home_at homes.now index }
 {
@@ -153,8 +162,8 @@ fn homes_of(
     Ok(homes)
 }
 
-// Where the ending of an element stands. `nexts` has for each element the place of that of its time
-// children that is expected next.
+// Where the ending of an element stands, if its container's duration is implicit. `nexts` has for
+// each element the place of that of its time children that is expected next.
 fn home_of(tree: &Tree, schedule: &Schedule, who: u32, nexts: &mut Vec<usize>) -> Option<Home>
     requires of_elements { AreOfElements tree.now.nodes schedule.now }
     requires element { has_element tree.now.nodes who ≡ true }
@@ -164,6 +173,9 @@ fn home_of(tree: &Tree, schedule: &Schedule, who: u32, nexts: &mut Vec<usize>) -
 {
     tree.valid();
     let parent = tree.time_parent(who)?;
+    if !takes_implicit(tree.attrs(parent)) {
+        return None;
+    }
     let container = schedule.index_of(parent).unwrap();
     let child = place_among(tree.time_children(parent), who, nexts[container]);
     nexts[container] = child + 1;

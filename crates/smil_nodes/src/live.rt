@@ -10,7 +10,9 @@ ghost use Rattle.smil_model.specs.interval.Current.{current_interval};
 ghost use Rattle.smil_model.specs.reach.Bounds.{reaches};
 ghost use Rattle.smil_laws.specs.Near.{IsIntervalNear};
 ghost use Rattle.smil_past.specs.Past.{IsPresent, front, history_of};
+ghost use Rattle.smil_element.specs.Endings.{ending_by};
 ghost use Rattle.smil_cells.specs.CellsState.{fresh};
+ghost use Rattle.smil_rounds.specs.declared.current_rows.CurrentRow.{CurrentRow as AnyRow};
 ghost use Rattle.smil_rounds.specs.Round.{AreOfElements, IsRowEvaluated};
 ghost use Rattle.smil_rounds.specs.Current.{interval_in};
 ghost use Rattle.smil_nodes.specs.Endings.{AreKnown, IsEnded, KnowsEnds, ending_in, nobody, put_ending};
@@ -26,11 +28,14 @@ use super::sources::Sources;
 use super::touched::{Network, note_touched};
 use super::undo::{Note, Undo};
 use smil_cells::{Cells, Since, Table};
-use smil_element::{DueChange, Ending, Intervals, Present, Room, ending_of, is_same_ending};
+use smil_element::{
+    DueChange, DueChanges, Ending, Intervals, Present, Room, comings_of, ending_of, evaluation_of,
+    is_same_ending, subject_of,
+};
 use smil_interval::{Steps, is_same_interval};
 use smil_model::{Duplicate, Interval, PlaceSet, Serials};
 use smil_past::Past;
-use smil_rounds::current_rows::{CurrentRow, IndexedElement, is_same_row, row_of};
+use smil_rounds::current_rows::is_same_comings;
 use std::alloc::{AllocError, Global};
 use std::sync::ledger::Ledger;
 
@@ -266,50 +271,77 @@ impl LiveTable {
             endings: &self.endings,
             index,
         };
-        let element = IndexedElement {
-            present: *present,
-            index,
-        };
-        let row = row_of(&element, &sources, &mut self.room, steps)?;
-        let before = self.schedule.row(index).interval;
-        self.replace(index, &row, ending_of(present.past, who, row.interval))?;
-        Ok(!is_same_interval(before, row.interval))
+        let subject = subject_of(present);
+        let made = evaluation_of(&subject, &sources, &mut self.room, steps)?;
+        let comings = comings_of(&subject, index as u32, &made);
+        let ending = ending_kept(&self.endings, index, present, made.interval);
+        self.replace(index, made.interval, &comings, ending)
     }
 
-    // Puts the interval of a row, and what comes by it, in the row at an index, and the ending of
-    // its element; where a mark stands, what was there is noted. Nothing is done where all of that
-    // is there already.
-    fn replace(&mut self, index: usize, row: &CurrentRow, ending: Ending) -> Result<(), AllocError>
+    // Puts an interval, and what comes by it, in the row at an index, and the ending of its
+    // element; where a mark stands, what was there is noted. Nothing is done where all of that is
+    // there already. The answer is whether the interval is another than before.
+    fn replace(
+        &mut self,
+        index: usize,
+        interval: Option<Interval>,
+        comings: &DueChanges,
+        ending: Ending,
+    ) -> Result<bool, AllocError>
         requires index { index < length self.old.schedule }
-        requires near { IfSome row.now.interval IsIntervalNear }
+        requires near { IfSome interval IsIntervalNear }
         ensures put { OnOk result (self.new.schedule
-            ≡ row_put self.old.schedule index row.now.interval row.now.comings) }
+            ≡ row_put self.old.schedule index interval comings.now) }
         ensures ended { OnOk result (self.new.endings
             ≡ put_ending self.old.endings index ending) }
+        ensures changes { IfOk result (λ changes. (row : AnyRow)
+            → slice_get self.old.schedule index ≡ Some row
+            → (changes ≡ false) ↔ (row.interval ≡ interval)) }
         ensures back { GoesBack self.old self.new }
         ensures agenda { self.new.agenda ≡ self.old.agenda }
         ensures has_mark { self.new.has_mark ≡ self.old.has_mark }
     {
-        if self.is_there(index, row, ending) {
-            return Ok(());
+        let changes = !is_same_interval(self.schedule.row(index).interval, interval);
+        if !changes && self.is_there(index, comings, ending) {
+            return Ok(false);
         }
         if self.has_mark {
             self.undo
                 .note(index, self.schedule.row(index), &self.endings)?;
         }
-        self.schedule.put(index, row.interval, &row.comings);
+        self.schedule.put(index, interval, comings);
         self.endings.put(index, ending);
-        Ok(())
+        Ok(changes)
     }
 
-    // Whether a row stands at an index, and its element has this ending.
-    fn is_there(&self, index: usize, row: &CurrentRow, ending: Ending) -> bool
+    // Whether this comes by the row at an index, and its element has this ending.
+    fn is_there(&self, index: usize, comings: &DueChanges, ending: Ending) -> bool
         requires { index < length self.now.schedule }
-        ensures { IsTrue result ↔ ((slice_get self.now.schedule index ≡ Some row.now)
-            × (ending ≡ ending_in self.now.endings index)) }
+        ensures { (row : AnyRow) → slice_get self.now.schedule index ≡ Some row
+            → (IsTrue result
+            ↔ ((row.comings ≡ comings.now) × (ending ≡ ending_in self.now.endings index))) }
     {
-        is_same_row(self.schedule.row(index), row)
+        is_same_comings(&self.schedule.row(index).comings, comings)
             && is_same_ending(self.endings.ending(index), ending)
+    }
+}
+
+// The ending of an element with an index, by its interval; where it is not kept the one that stands
+// there.
+fn ending_kept(
+    endings: &Endings,
+    index: usize,
+    present: &Present<'_>,
+    interval: Option<Interval>,
+) -> Ending
+    requires { has_element present.now.past.now.document.nodes present.now.who ≡ true }
+    ensures { put_ending endings.now index result ≡ put_ending endings.now index
+        (ending_by (history_of present.now.past.now) interval present.now.who) }
+{
+    if endings.keeps(index) {
+        ending_of(present.past, present.who, interval)
+    } else {
+        endings.ending(index)
     }
 }
 

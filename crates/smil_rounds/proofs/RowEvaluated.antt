@@ -11,12 +11,15 @@ use Rattle.smil_model.specs.document.Document.{elements, is_element, node_at, se
 use Rattle.smil_model.specs.document.Valid.{IsDistinct}
 use Rattle.smil_model.specs.document.Closure.{has}
 use Rattle.smil_model.specs.diary.Diary.{History}
+use Rattle.smil_model.specs.happening.Keys.{coming_by}
 use Rattle.smil_laws.specs.Near.{AllNear, IsIntervalNear}
 use Rattle.smil_laws.proofs.ListMembers.{Differ, differ_all, differ_kept}
 use Rattle.smil_laws.proofs.NearIntervals.{interval_near}
+use Rattle.smil_laws.proofs.RoundsRest.{find-serial}
 use Rattle.smil_graph.specs.Graph.{IsGraphOrder}
+use Rattle.smil_element.specs.declared.comings.DueChanges.{DueChanges}
 use Rattle.smil_element.specs.declared.evaluation.Evaluation.{Evaluation}
-use Rattle.smil_element.specs.Element.{IsEvaluated}
+use Rattle.smil_element.specs.Element.{IsEvaluated, both}
 use Rattle.smil_rounds.specs.declared.current_rows.CurrentRow.{CurrentRow}
 use Rattle.smil_rounds.specs.Current.{interval_in}
 use Rattle.smil_rounds.specs.Round.{AreRowsEvaluated, IsRowOf, IsRowEvaluated, StayUnchanged}
@@ -96,6 +99,14 @@ evaluated_near h intervals now e made near is = where_some made.interval (λ i q
     where_some : (o : Option Interval) → ((i : Interval) → o ≡ Some i → IsIntervalNear i) → IfSome o IsIntervalNear
     where_some None f = tt
     where_some (Some i) f = f i refl
+
+-- the row of what an evaluation gives
+pub row_made : (h : History) (given : ℕ → Option Interval) (now : ℤ) (place who : ℕ) (e : Node) (made : Evaluation) (comings : DueChanges) → node_at (elements h.nodes) who ≡ Some e → IsEvaluated h given now e made → both comings.moved comings.repeat ≡ coming_by h made.interval made.simple now place e → IsRowOf h given now place e (record { serial = who; interval = made.interval; comings = comings })
+row_made h given now place who e made comings here is come = record {
+  serial = sym (find-serial who (elements h.nodes) e here);
+  interval = is.interval;
+  comings = come ∙ ap (λ simple. coming_by h made.interval simple now place e) is.simple;
+}
 
 -- an element is taken where its row is that by the rows as they were
 pub taken_by : (h : History) (now : ℤ) (who place : ℕ) (before after : List CurrentRow) (row : CurrentRow) → (at : IsFound h.nodes before who place) → IsRowOf h (interval_in before) now place at.element row → after ≡ set before place row → IsRowEvaluated h now who before after

@@ -18,7 +18,7 @@ use smil_element::{
     evaluation_of, is_same_coming, subject_of, walked_duration,
 };
 use smil_instances::elements::elements;
-use smil_interval::{Steps, is_same_interval};
+use smil_interval::Steps;
 use smil_model::{ChildEnd, Duplicate, HasSerial, Interval, Key, SerialTable, Time, first_places};
 use smil_tree::Tree;
 use std::alloc::{AllocError, Global};
@@ -224,14 +224,11 @@ fn row_by<J: Containers, L: Ledger>(
     })
 }
 
-/// Whether two rows are the same. It takes no memory.
-pub fn is_same_row(one: &CurrentRow, other: &CurrentRow) -> bool
+/// Whether the same comes of two elements. It takes no memory.
+pub fn is_same_comings(one: &DueChanges, other: &DueChanges) -> bool
     ensures { IsTrue result ↔ (one.now ≡ other.now) }
 {
-    one.serial == other.serial
-        && is_same_interval(one.interval, other.interval)
-        && is_same_coming(&one.comings.moved, &other.comings.moved)
-        && is_same_coming(&one.comings.repeat, &other.comings.repeat)
+    is_same_coming(&one.moved, &other.moved) && is_same_coming(&one.repeat, &other.repeat)
 }
 
 // Of what comes of an element the begin or end where that has this key, else the repeat.

@@ -1,11 +1,9 @@
-use Rattle.std.proofs.Common.{◌∙◌, ap, sym, ◌<◌, ◌≤◌, length, arith}
+use Rattle.std.proofs.Common.{◌∙◌, ◌<◌, ◌≤◌, length, arith}
 use Rattle.std.proofs.lemmas.Option.{slice_get_within}
 use Rattle.smil_model.specs.document.Document.{elements}
-use Rattle.smil_model.specs.happening.Keys.{coming_by}
-use Rattle.smil_laws.proofs.RoundsRest.{find-serial}
 use Rattle.smil_instances.proofs.IdTargets.{element_of}
 use Rattle.smil_past.specs.Past.{history_of}
-use Rattle.smil_rounds.proofs.RowEvaluated.{elements_few, evaluated_near}
+use Rattle.smil_rounds.proofs.RowEvaluated.{elements_few, evaluated_near, row_made}
 use Rattle.smil_rounds.proofs.current_rows.row_by.Goals as goal
 
 pub evaluation_of-requires-clause-known : goal.evaluation_of-requires-clause-known
@@ -28,14 +26,8 @@ comings_of-requires-clause-near g c =
 
 pub returns-clause-row : goal.returns-clause-row
 returns-clause-row g c = λ e here.
-    let past = c.args.subject.now.present.past.now in
-    let made = c.in_ok-made.made in
-    let is = c.in_ok-made.ensures.made e here in
-    record {
-      serial = sym (find-serial c.args.subject.now.present.who (elements past.document.nodes) e here);
-      interval = is.interval;
-      comings = c.comings_of.ensures e here ∙ ap (λ simple. coming_by (history_of past) made.interval simple c.args.subject.now.present.moment c.args.index e) is.simple;
-    }
+    let subject = c.args.subject.now.present in
+    row_made (history_of subject.past.now) (g.J.Intervals.given c.args.intervals.now) subject.moment c.args.index subject.who e c.in_ok-made.made c.comings_of.result here (c.in_ok-made.ensures.made e here) (c.comings_of.ensures e here)
 
 pub returns-clause-near : goal.returns-clause-near
 returns-clause-near g c =

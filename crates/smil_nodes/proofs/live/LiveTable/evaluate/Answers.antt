@@ -1,20 +1,37 @@
-use Rattle.std.proofs.Common.{◌≡◌, ◌∙◌, ap, sym, ◌<◌, length, set, arith}
-use Rattle.std.specs.Prelude.{Option, is_some, not}
-use Rattle.std.proofs.lemmas.Bool.{not-false}
+use Rattle.std.proofs.Common.{◌≡◌, ◌∙◌, ap, sym, subst, List, ◌<◌, ◌≤◌, length, get_or, set, arith}
+use Rattle.std.specs.Prelude.{IfSome, Option, Some, is_some, slice_get, true}
+use Rattle.std.proofs.lemmas.Option.{slice_get-get_or}
+use Rattle.std.proofs.lemmas.Result.{on_ok_weaker}
+use Rattle.std.specs.Prelude.{IfOk, OnOk, Result, Ok, Err}
+use Rattle.smil_model.specs.declared.document.Node.{Node}
 use Rattle.smil_model.specs.declared.interval.Interval.{Interval}
-use Rattle.smil_model.specs.document.Document.{elements}
+use Rattle.smil_model.specs.document.Document.{elements, node_at}
+use Rattle.smil_model.specs.document.Dependencies.{has_implicit_duration}
+use Rattle.smil_model.specs.happening.Keys.{coming_by}
+use Rattle.smil_laws.specs.Near.{IsIntervalNear}
 use Rattle.smil_past.specs.Past.{history_of}
+use Rattle.smil_element.specs.declared.present.Present.{Present}
+use Rattle.smil_element.specs.Element.{IsEvaluated, both}
+use Rattle.smil_rounds.specs.declared.current_rows.CurrentRow.{CurrentRow}
 use Rattle.smil_rounds.specs.Current.{interval_in}
+use Rattle.smil_rounds.specs.Round.{IsRowOf}
+use Rattle.smil_rounds.specs.Rows.{row_without}
 use Rattle.smil_rounds.proofs.RowsBesideElements.{interval_at}
-use Rattle.smil_rounds.proofs.RowEvaluated.{IsFound, found, has_row, own_interval, taken_by}
+use Rattle.smil_rounds.proofs.RowEvaluated.{IsFound, elements_few, evaluated_near, found, has_row, own_interval, row_made, taken_by}
 use Rattle.smil_element.specs.Endings.{ending_by}
-use Rattle.smil_nodes.specs.Endings.{put_ending}
+use Rattle.smil_nodes.specs.Endings.{KnowsEndsAt, put_ending}
+use Rattle.smil_nodes.specs.Schedule.{row_put}
 use Rattle.smil_nodes.proofs.RowAtElement.{first_serial}
 use Rattle.smil_nodes.proofs.EndingPlaces.{rows_count}
 use Rattle.smil_nodes.proofs.RowsPutBack.{row_set}
 use Rattle.smil_nodes.proofs.live.LiveTable.evaluate.Given.{Over}
 use Rattle.smil_nodes.proofs.live.LiveTable.evaluate.Goals as goal
-use Rattle.smil_nodes.proofs.live.LiveTable.evaluate.Goals.{After-unwrap-index, In_ok-replace}
+use Rattle.smil_nodes.proofs.live.LiveTable.evaluate.Goals.{After-unwrap-index, In_ok-made, After-comings_of-comings}
+
+-- what follows at Ok from two things that hold there
+ok_both : {T E P : Type 0} (r : Result T E) (Q R : T → Type 0) → (P → (x : T) → Q x → R x) → OnOk r P → IfOk r Q → IfOk r R
+ok_both (Ok x) Q R f p q = f p x q
+ok_both (Err e) Q R f p q = tt
 
 -- the element and its row
 found_row : (g : Over) (c : After-unwrap-index g) → IsFound c.args.present.now.past.now.document.nodes c.args.self.now.schedule c.args.present.now.who c.unwrap-index.result
@@ -23,14 +40,14 @@ found_row g c = found _ _ _ c.possible.ensures.valid.numbered.distinct c.require
 pub unwrap-index-requires : goal.unwrap-index-requires
 unwrap-index-requires g c = ap is_some c.index_of.ensures ∙ has_row _ _ _ c.possible.ensures.valid.numbered.distinct c.requires.of_elements c.requires.element
 
-pub row_of-requires-clause-index : goal.row_of-requires-clause-index
-row_of-requires-clause-index g c = let at = found_row g (goal.at.row_of-requires-clause-index g c).After-unwrap-index in at.here ∙ sym at.node
-
-pub row_of-requires-clause-known : goal.row_of-requires-clause-known
-row_of-requires-clause-known g c = λ e here implicit. record {
-  known = c.requires.known e here implicit;
-  here = sym (sym c.unwrap-index.ensures ∙ c.index_of.ensures);
-}
+pub evaluation_of-requires-clause-known : goal.evaluation_of-requires-clause-known
+evaluation_of-requires-clause-known g c =
+    subst (λ (p : Present). (e : Node) → node_at (elements p.past.now.document.nodes) p.who ≡ Some e → has_implicit_duration e ≡ true → KnowsEndsAt c.args.self.now.schedule c.args.self.now.endings (history_of p.past.now) p.who c.unwrap-index.result)
+    (sym c.subject_of-subject.ensures.same)
+    (λ e here implicit. record {
+      known = c.requires.known e here implicit;
+      here = sym (sym c.unwrap-index.ensures ∙ c.index_of.ensures);
+    })
 
 -- the index is one of a row
 within : (g : Over) (c : After-unwrap-index g) → c.unwrap-index.result < length c.args.self.now.schedule
@@ -39,58 +56,100 @@ within g c =
     let count : length rows ≡ length (elements c.args.present.now.past.now.document.nodes) = rows_count c.args.present.now.past.now.document.nodes rows c.requires.of_elements in
     omega (arith, count, (found_row g c).within)
 
-pub row-requires : goal.row-requires
-row-requires g c = within g (goal.at.row-requires g c).After-unwrap-index
+pub overflow_cast-index : goal.overflow_cast-index
+overflow_cast-index g c =
+    let nodes = c.args.present.now.past.now.document.nodes in
+    let here : c.unwrap-index.result < length (elements nodes) = (found_row g (goal.at.overflow_cast-index g c).After-unwrap-index).within in
+    let few : length (elements nodes) ≤ length nodes = elements_few nodes in
+    let all : length nodes ≤ 8000 = c.possible.ensures.valid.nodes in
+    omega (arith, here, few, all)
 
 pub replace-requires-clause-index : goal.replace-requires-clause-index
 replace-requires-clause-index g c = within g (goal.at.replace-requires-clause-index g c).After-unwrap-index
 
+-- the numbers of the interval are near
+near : (g : Over) (c : In_ok-made g) → IfSome (c.in_ok-made.made).interval IsIntervalNear
+near g c =
+    let past = c.args.present.now.past.now in
+    let at = found past.document.nodes c.args.self.now.schedule c.args.present.now.who c.possible.ensures.valid.numbered.distinct c.requires.of_elements c.requires.element c.unwrap-index.result (sym c.unwrap-index.ensures ∙ c.index_of.ensures) in
+    evaluated_near (history_of past) (interval_in c.args.self.now.schedule) c.args.present.now.moment at.element c.in_ok-made.made c.possible.ensures.near
+    (subst (λ (p : Present). (e : Node) → node_at (elements p.past.now.document.nodes) p.who ≡ Some e → IsEvaluated (history_of p.past.now) (interval_in c.args.self.now.schedule) p.moment e c.in_ok-made.made) c.subject_of-subject.ensures.same c.in_ok-made.ensures.made at.element at.node)
+
+pub comings_of-comings-requires-clause-near : goal.comings_of-comings-requires-clause-near
+comings_of-comings-requires-clause-near g c = near g (goal.at.comings_of-comings-requires-clause-near g c).In_ok-made
+
 pub replace-requires-clause-near : goal.replace-requires-clause-near
-replace-requires-clause-near g c = c.in_ok-row.ensures.near
+replace-requires-clause-near g c = near g (goal.at.replace-requires-clause-near g c).In_ok-made
 
--- the same where all is evaluated
-found_then : (g : Over) (c : In_ok-replace g) → IsFound c.args.present.now.past.now.document.nodes c.args.self.now.schedule c.args.present.now.who c.unwrap-index.result
-found_then g c = found _ _ _ c.possible.ensures.valid.numbered.distinct c.requires.of_elements c.requires.element c.unwrap-index.result (sym c.unwrap-index.ensures ∙ c.index_of.ensures)
+-- the row of what was evaluated
+module _ (g : Over) (c : After-comings_of-comings g) where
+  at : IsFound c.args.present.now.past.now.document.nodes c.args.self.now.schedule c.args.present.now.who c.unwrap-index.result
+  at = found _ _ _ c.possible.ensures.valid.numbered.distinct c.requires.of_elements c.requires.element c.unwrap-index.result (sym c.unwrap-index.ensures ∙ c.index_of.ensures)
 
--- the row is put in the place of its own
-row_is : (g : Over) (c : In_ok-replace g) → c.replace.new.self.schedule ≡ set c.args.self.now.schedule c.unwrap-index.result c.in_ok-row.row
-row_is g c =
-    let rows = c.args.self.now.schedule in
-    let k = c.unwrap-index.result in
-    let at = found_then g c in
-    let own : c.row.result.now.serial ≡ c.in_ok-row.row.serial =
-    first_serial _ rows k c.row.result.now at.first c.row.ensures.row ∙ sym ((c.in_ok-row.ensures.row at.element at.node).serial ∙ at.is_who) in
-    c.in_ok-replace.ensures.put ∙ row_set rows k c.row.result.now c.in_ok-row.row c.row.ensures.row own
+  is_made : IsEvaluated (history_of c.args.present.now.past.now) (interval_in c.args.self.now.schedule) c.args.present.now.moment at.element c.in_ok-made.made
+  is_made = subst (λ (p : Present). (e : Node) → node_at (elements p.past.now.document.nodes) p.who ≡ Some e → IsEvaluated (history_of p.past.now) (interval_in c.args.self.now.schedule) p.moment e c.in_ok-made.made) c.subject_of-subject.ensures.same c.in_ok-made.ensures.made at.element at.node
+
+  comes : both c.comings_of-comings.result.moved c.comings_of-comings.result.repeat ≡ coming_by (history_of c.args.present.now.past.now) (c.in_ok-made.made).interval (c.in_ok-made.made).simple c.args.present.now.moment c.unwrap-index.result at.element
+  comes = subst (λ (p : Present). (e : Node) → node_at (elements p.past.now.document.nodes) p.who ≡ Some e → both c.comings_of-comings.result.moved c.comings_of-comings.result.repeat ≡ coming_by (history_of p.past.now) (c.in_ok-made.made).interval (c.in_ok-made.made).simple p.moment c.unwrap-index.result e) c.subject_of-subject.ensures.same c.comings_of-comings.ensures at.element at.node
+
+  abbrev made : CurrentRow
+  made = record { serial = c.args.present.now.who; interval = (c.in_ok-made.made).interval; comings = c.comings_of-comings.result }
+
+  is_row : IsRowOf (history_of c.args.present.now.past.now) (interval_in c.args.self.now.schedule) c.args.present.now.moment c.unwrap-index.result at.element made
+  is_row = row_made (history_of c.args.present.now.past.now) (interval_in c.args.self.now.schedule) c.args.present.now.moment c.unwrap-index.result c.args.present.now.who at.element c.in_ok-made.made c.comings_of-comings.result at.node is_made comes
+
+  -- the row that was there
+  abbrev old : CurrentRow
+  old = get_or c.args.self.now.schedule c.unwrap-index.result (row_without 0)
+
+  was : slice_get c.args.self.now.schedule c.unwrap-index.result ≡ Some old
+  was =
+      let rows = c.args.self.now.schedule in
+      let count : length rows ≡ length (elements c.args.present.now.past.now.document.nodes) = rows_count c.args.present.now.past.now.document.nodes rows c.requires.of_elements in
+      slice_get-get_or rows c.unwrap-index.result (row_without 0) (omega (arith, count, at.within))
+
+  -- the new one is put in its place
+  put_is : (rows : List CurrentRow) → rows ≡ row_put c.args.self.now.schedule c.unwrap-index.result made.interval made.comings → rows ≡ set c.args.self.now.schedule c.unwrap-index.result made
+  put_is rows put = put ∙ row_set c.args.self.now.schedule c.unwrap-index.result old made was (first_serial _ c.args.self.now.schedule c.unwrap-index.result old at.first was)
+
+  own : (rows : List CurrentRow) → rows ≡ row_put c.args.self.now.schedule c.unwrap-index.result made.interval made.comings → interval_in rows c.args.present.now.who ≡ made.interval
+  own rows put = own_interval _ c.args.self.now.schedule _ _ made at is_row.serial rows (put_is rows put)
 
 pub returns-clause-taken : goal.returns-clause-taken
 returns-clause-taken g c =
-    let all = (goal.at.returns-clause-taken g c).In_ok-replace in
-    let at = found_then g all in
-    taken_by (history_of c.args.present.now.past.now) c.args.present.now.moment _ _ c.args.self.now.schedule c.replace.new.self.schedule c.in_ok-row.row at (c.in_ok-row.ensures.row at.element at.node) (row_is g all)
+    let all = (goal.at.returns-clause-taken g c).After-comings_of-comings in
+    let rows = c.replace.new.self.schedule in
+    on_ok_weaker c.replace.result (λ put. taken_by (history_of c.args.present.now.past.now) c.args.present.now.moment _ _ c.args.self.now.schedule rows (made g all) (at g all) (is_row g all) (put_is g all rows put)) c.replace.ensures.put
 
 pub returns-clause-same : goal.returns-clause-same
 returns-clause-same g c =
-    let all = (goal.at.returns-clause-same g c).In_ok-replace in
+    let all = (goal.at.returns-clause-same g c).After-comings_of-comings in
     let rows = c.args.self.now.schedule in
-    let at = found_then g all in
-    let own = own_interval _ rows _ _ c.in_ok-row.row at (c.in_ok-row.ensures.row at.element at.node).serial c.replace.new.self.schedule (row_is g all) in
-    let before : interval_in rows c.args.present.now.who ≡ c.row.result.now.interval = interval_at _ rows _ c.row.result.now at.first c.row.ensures.row in (
-      λ unchanged. own ∙ sym (before ∙ c.is_same_interval.ensures.0 (not-false c.is_same_interval.result unchanged)),
-      λ same. ap not (c.is_same_interval.ensures.1 (sym before ∙ sym same ∙ own)),
-    )
+    let new = c.replace.new.self.schedule in
+    ok_both c.replace.result _ _
+    (λ put changes differs.
+    let after : interval_in new c.args.present.now.who ≡ (made g all).interval = own g all new put in
+    let before : interval_in rows c.args.present.now.who ≡ (old g all).interval = interval_at _ rows _ (old g all) (at g all).first (was g all) in
+    let by = differs (old g all) (was g all) in (
+      λ unchanged. after ∙ sym (before ∙ by.0 unchanged),
+      λ same. by.1 (sym before ∙ sym same ∙ after),
+    ))
+    c.replace.ensures.put c.replace.ensures.changes
 
 pub returns-clause-ended : goal.returns-clause-ended
 returns-clause-ended g c =
-    let all = (goal.at.returns-clause-ended g c).In_ok-replace in
-    let at = found_then g all in
+    let all = (goal.at.returns-clause-ended g c).After-comings_of-comings in
     let who = c.args.present.now.who in
-    let interval = own_interval _ c.args.self.now.schedule who _ c.in_ok-row.row at (c.in_ok-row.ensures.row at.element at.node).serial c.replace.new.self.schedule (row_is g all) in
-    record {
+    let new = c.replace.new.self.schedule in
+    ok_both c.replace.result _ _
+    (λ put changes ended. record {
       place = c.unwrap-index.result;
-      element = at.element;
-      here = at.here;
-      is_who = at.is_who;
+      element = (at g all).element;
+      here = (at g all).here;
+      is_who = (at g all).is_who;
       after_is =
-          c.in_ok-replace.ensures.ended
-          ∙ ap (put_ending c.args.self.now.endings c.unwrap-index.result) (c.ending_of.ensures ∙ ap (λ (o : Option Interval). ending_by (history_of c.args.present.now.past.now) o who) (sym interval));
-    }
+          ended
+          ∙ c.ending_kept-ending.ensures
+          ∙ ap (λ (o : Option Interval). put_ending c.args.self.now.endings c.unwrap-index.result (ending_by (history_of c.args.present.now.past.now) o who)) (sym (own g all new put));
+    })
+    c.replace.ensures.put c.replace.ensures.ended

@@ -46,7 +46,7 @@ evaluate-requires-clause-known g c = λ e here implicit.
     let distinct = c.possible.ensures.valid.numbered.distinct in
     let is : IsGraphOrder nodes order = subst (λ (nodes : List Node). IsGraphOrder nodes order) c.graph.ensures c.order-who-items.ensures.order in
     let own : e.serial ≡ who = find-serial who (elements nodes) e here in
-    knows (history_of c.args.past.now) c.loop-who.self.schedule c.loop-who.self.endings (IsBelow order k) who e distinct (c.loop-who.invariant.0).of_elements c.loop-who.invariant.3 here
+    knows (history_of c.args.past.now) c.loop-who.self.schedule c.loop-who.self.endings (IsBelow order k) who e distinct (c.loop-who.invariant.0).of_elements c.loop-who.invariant.3 here implicit
     (λ j child at. child_below nodes order k j e child distinct is c.loop-who-test.true (sym own) (ap (node_at (elements nodes)) own ∙ here) implicit at)
 
 pub loop-who-preserved : goal.loop-who-preserved

@@ -86,7 +86,7 @@ evaluate-requires-clause-known g c = λ e here implicit.
     let is = is_order c.graph-graph.result.now nodes order c.graph-graph.ensures c.order-order.ensures.order in
     let distinct = c.possible.ensures.valid.numbered.distinct in
     let own : e.serial ≡ who = find-serial who (elements nodes) e here in
-    knows (history_of past) c.loop-rank.self.schedule c.loop-rank.self.endings (IsUnlisted order (has old)) who e distinct (c.loop-rank.invariant.0).of_elements c.loop-rank.invariant.6 here
+    knows (history_of past) c.loop-rank.self.schedule c.loop-rank.self.endings (IsUnlisted order (has old)) who e distinct (c.loop-rank.invariant.0).of_elements c.loop-rank.invariant.6 here implicit
     (λ k child at. children_unlisted nodes order old c.take_first.new.self rank e distinct is within (sym own) (ap (node_at (elements nodes)) own ∙ here) implicit (taken_out c.loop-rank.self.agenda c.in-Some.rank c.take_first.new.self c.in-Some.ensures.taken c.in-Some.ensures.order) k child at)
 
 -- what holds where an element was evaluated
