@@ -94,6 +94,7 @@ impl<T: Table> PresentationOver<T> {
     }
 
     // Moves to an earlier moment, over cells with the entries of the diary and the log up to it.
+    #[inline(never)]
     fn seek_back<I: ChangeItem, L: Ledger>(
         &mut self,
         to: i64,
@@ -163,6 +164,7 @@ impl<T: Table> PresentationOver<T> {
     /// The length of a node's media, in milliseconds, becomes known at the present moment.
     /// `NoElement` where there is no such node, `NotContinuous` where its media have no length,
     /// then `LogFull` and `DiaryFull`, or `Memory`.
+    #[inline(never)]
     pub fn media<I: ChangeItem, L: Ledger>(
         &mut self,
         who: &Who,

@@ -152,6 +152,7 @@ impl<T: Table> PresentationOver<T> {
     }
 
     // Hears a key, and tells what changes.
+    #[inline(never)]
     fn press<I: ChangeItem, L: Ledger>(
         &mut self,
         key: u8,
@@ -174,6 +175,7 @@ impl<T: Table> PresentationOver<T> {
     }
 
     // Answers an order that edits the document.
+    #[inline(never)]
     fn edit<I: ChangeItem, L: Ledger>(
         &mut self,
         order: &Order,

@@ -35,6 +35,7 @@ struct LayeredDocument<'a> {
 
 impl<T: Table> PresentationOver<T> {
     /// Tells what an order asks for. After a refusal `out` is as before.
+    #[inline(never)]
     pub fn tell(&self, order: &Order, out: &mut Bytes) -> Result<(), Refusal>
         requires given { IsGiven order.now }
         requires telling { is_telling order.now ≡ true }

@@ -193,7 +193,7 @@ fn put_one<T: Table, I: ChangeItem>(
     ensures begins { Begins out.old out.new }
 {
     let view = view_in(cells, serial);
-    if seen.put(view)? {
+    if seen.put(&view)? {
         let scene = Scene {
             tree: cells.tree(),
             moment: cells.moment(),

@@ -1,5 +1,5 @@
 -- The words of a line.
-use Rattle.std.specs.Prelude.{ℕ, List, [], ◌∷◌, codes, decimal}
+use Rattle.std.specs.Prelude.{ℕ, List, [], ◌∷◌, ◌++◌, codes, decimal}
 use Rattle.std.specs.Fmt.{signed_decimal}
 use Rattle.smil_model.specs.shown.Lines.{line_of, quoted, reference_text, serial_text, shown_text, state_text, refusal_text, refusal_column, column_words}
 use Rattle.smil_model.specs.declared.order.Refusal.{Refusal}
@@ -34,9 +34,8 @@ cause_words refusal = refusal_text refusal ∷ column_words (refusal_column refu
 -- what the line of a change shows of a view, behind the name
 abbrev pub view_text : View → List ℕ
 view_text view =
-    space ∷ line_of (state_text view.state ∷ shown_text view.begin ∷ shown_text view.«end»
-    ∷ decimal view.iteration
-    ∷ decimal view.finished ∷ [])
+    state_text view.state ++ space ∷ shown_text view.begin ++ space ∷ shown_text view.«end»
+    ++ space ∷ decimal view.iteration ++ space ∷ decimal view.finished
 
 -- the last line of the answer to a load that is only read
 abbrev pub checked_line : ℕ → List ℕ → List ℕ

@@ -1,6 +1,7 @@
 //! The lines of a transcript, written.
 #![tactic(auto)]
 
+mod backwards;
 mod buffers;
 mod changes;
 mod entries;

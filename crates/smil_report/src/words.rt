@@ -1,12 +1,12 @@
 //! The words of a line.
 
 ghost use Rattle.std.specs.Prelude.{◌≡◌, ◌++◌, List, map, OnOk, OnErr};
-ghost use Rattle.smil_model.specs.shown.Lines.{line_of, quoted, reference_text, serial_text, shown_text, state_text, how_text};
+ghost use Rattle.smil_model.specs.shown.Lines.{line_of, quoted, reference_text, serial_text, shown_text, how_text};
 ghost use Rattle.smil_report.specs.Words.{who_of, word_text};
 ghost use Rattle.smil_model.specs.document.Words.{Begins};
 
 use itoa::{Buffer, Integer};
-use smil_model::{Bytes, How, Shown, State};
+use smil_model::{Bytes, How, Shown};
 use std::alloc::AllocError;
 
 /// The name of a node: its id, or its serial where it has none.
@@ -28,21 +28,6 @@ pub enum Word<'a> {
     Time(Shown),
     Moment(i64),
     Number(u32),
-}
-
-/// A state's name.
-pub fn state_word(state: State) -> &'static [u8]
-    ensures { result.now ≡ state_text state }
-{
-    match state {
-        State::Idle => b"idle",
-        State::Waiting => b"waiting",
-        State::Active => b"active",
-        State::Paused => b"paused",
-        State::Deferred => b"deferred",
-        State::Frozen => b"frozen",
-        State::Done => b"done",
-    }
 }
 
 /// How an interval ended.

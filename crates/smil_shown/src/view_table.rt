@@ -100,22 +100,23 @@ impl ViewTable {
 
     /// Puts a view in the place of the one that the element has, where the two differ, and tells
     /// whether they do; the old one is noted then. Where memory runs out all is as before.
-    pub fn put(&mut self, view: View) -> Result<bool, AllocError>
-        requires { has_view self.old.views view.serial ≡ true }
-        ensures differs { IfOk result (λ different. different ≡ differs self.old.views view) }
-        ensures ok { OnOk result (self.new ≡ with_view self.old view) }
+    pub fn put(&mut self, view: &View) -> Result<bool, AllocError>
+        requires { has_view self.old.views view.now.serial ≡ true }
+        ensures differs { IfOk result (λ different. different ≡ differs self.old.views view.now) }
+        ensures ok { OnOk result (self.new ≡ with_view self.old view.now) }
         ensures err { OnErr result (self.new ≡ self.old) }
     {
         let place = self.places.get(view.serial).unwrap();
-        if is_same(&view, &self.rows[place]) {
+        if is_same(view, &self.rows[place]) {
             return Ok(false);
         }
         self.noted.push(self.rows[place])?;
-        self.rows[place] = view;
+        self.rows[place] = *view;
         Ok(true)
     }
 
     /// Puts back the views that were noted; none is noted afterwards. It takes no memory.
+    #[cold]
     pub fn back(&mut self)
         ensures { self.new ≡ record { views = self.old.before; before = self.old.before } }
     {

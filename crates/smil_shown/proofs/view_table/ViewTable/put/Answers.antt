@@ -7,41 +7,41 @@ use Rattle.smil_shown.proofs.view_table.ViewTable.put.Goals as goal
 
 pub unwrap-place-requires : goal.unwrap-place-requires
 unwrap-place-requires c =
-    let s = c.args.view.serial in
+    let s = c.args.view.now.serial in
     let has = subst (λ shown. has_view shown.views s ≡ true) (sym c.self.view_is) c.requires in
     let e = c.get.ensures ∙ (c.self.invariant.place s ∙ present s c.self.inside.rows.items has) in
     search rules
 
 pub returns-then-is_same-clause-differs : goal.returns-then-is_same-clause-differs
 returns-then-is_same-clause-differs c =
-    let e = sym c.unwrap-place.ensures ∙ (c.get.ensures ∙ c.self.invariant.place c.args.view.serial) in
-    subst (λ shown. false ≡ differs shown.views c.args.view) c.self.view_is
-    (differs_by c.self.inside.rows.items c.unwrap-place.result c.index.result.now c.args.view true e c.index.ensures c.if-is_same.ensures)
+    let e = sym c.unwrap-place.ensures ∙ (c.get.ensures ∙ c.self.invariant.place c.args.view.now.serial) in
+    subst (λ shown. false ≡ differs shown.views c.args.view.now) c.self.view_is
+    (differs_by c.self.inside.rows.items c.unwrap-place.result c.index.result.now c.args.view.now true e c.index.ensures c.if-is_same.ensures)
 
 pub returns-then-is_same-clause-ok : goal.returns-then-is_same-clause-ok
 returns-then-is_same-clause-ok c =
-    let e = sym c.unwrap-place.ensures ∙ (c.get.ensures ∙ c.self.invariant.place c.args.view.serial) in
-    subst (λ shown. shown ≡ with_view shown c.args.view) c.self.view_is
+    let e = sym c.unwrap-place.ensures ∙ (c.get.ensures ∙ c.self.invariant.place c.args.view.now.serial) in
+    subst (λ shown. shown ≡ with_view shown c.args.view.now) c.self.view_is
     (ap (λ l. record { views = l; before = put_back c.self.inside.rows.items c.self.inside.noted.items })
-    (sym (unchanged c.self.inside.rows.items c.unwrap-place.result c.index.result.now c.args.view c.self.invariant.one e c.index.ensures (sym c.if-is_same.ensures))))
+    (sym (unchanged c.self.inside.rows.items c.unwrap-place.result c.index.result.now c.args.view.now c.self.invariant.one e c.index.ensures (sym c.if-is_same.ensures))))
 
 pub invariant_of-self-2 : goal.invariant_of-self-2
 invariant_of-self-2 c =
-    let e = sym c.unwrap-place.ensures ∙ (c.get.ensures ∙ c.self.invariant.place c.args.view.serial) in
+    let e = sym c.unwrap-place.ensures ∙ (c.get.ensures ∙ c.self.invariant.place c.args.view.now.serial) in
     subst (λ (l : List View). AreAt (get c.self.inside.places) l)
-    (sym (placed c.self.inside.rows.items c.unwrap-place.result c.index.result.now c.args.view c.self.invariant.one e))
-    (at_put (get c.self.inside.places) c.self.inside.rows.items c.args.view c.self.invariant)
+    (sym (placed c.self.inside.rows.items c.unwrap-place.result c.index.result.now c.args.view.now c.self.invariant.one e))
+    (at_put (get c.self.inside.places) c.self.inside.rows.items c.args.view.now c.self.invariant)
 
 pub returns-clause-differs : goal.returns-clause-differs
 returns-clause-differs c =
-    let e = sym c.unwrap-place.ensures ∙ (c.get.ensures ∙ c.self.invariant.place c.args.view.serial) in
-    subst (λ shown. true ≡ differs shown.views c.args.view) c.self.view_is
-    (differs_by c.self.inside.rows.items c.unwrap-place.result c.index.result.now c.args.view false e c.index.ensures c.if-is_same.ensures)
+    let e = sym c.unwrap-place.ensures ∙ (c.get.ensures ∙ c.self.invariant.place c.args.view.now.serial) in
+    subst (λ shown. true ≡ differs shown.views c.args.view.now) c.self.view_is
+    (differs_by c.self.inside.rows.items c.unwrap-place.result c.index.result.now c.args.view.now false e c.index.ensures c.if-is_same.ensures)
 
 pub returns-clause-ok : goal.returns-clause-ok
 returns-clause-ok c =
     let rows = c.self.inside.rows.items in
-    let view = c.args.view in
+    let view = c.args.view.now in
     let e = sym c.unwrap-place.ensures ∙ (c.get.ensures ∙ c.self.invariant.place view.serial) in
     let old = c.index-2.result.now in
     let is = placed rows c.unwrap-place.result c.index.result.now view c.self.invariant.one e in
