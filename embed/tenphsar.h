@@ -76,13 +76,16 @@ int64_t tenphsar_next(tenphsar *session, const char *name, size_t len);
  *
  * The answer to the last line stays. */
 enum {
-    TENPHSAR_BAD_ARGUMENT = -3, /* a number out of range, or a name or a key that no line can say */
+    TENPHSAR_BAD_ARGUMENT = -3, /* a number out of range, or a text or a key that no line can say */
     TENPHSAR_OPEN_LOAD = -4     /* a load that was begun by lines hasn't ended */
 };
 
 /* The refusals that orders by calls answer; docs/REFUSALS.md says of each word when it comes. */
 enum {
+    TENPHSAR_LONG_LINE = 1,           /* long-line */
+    TENPHSAR_NOT_A_COMMAND = 2,       /* not-a-command */
     TENPHSAR_BAD_OUTLINE = 4,         /* bad-outline */
+    TENPHSAR_DEPTH_JUMP = 5,          /* depth-jump */
     TENPHSAR_TOO_DEEP = 6,            /* too-deep */
     TENPHSAR_BAD_PLACE = 7,           /* bad-place */
     TENPHSAR_UNKNOWN_ATTRIBUTE = 8,   /* unknown-attribute */
@@ -93,14 +96,31 @@ enum {
     TENPHSAR_TOO_MANY_ELEMENTS = 13,  /* too-many-elements */
     TENPHSAR_TOO_MANY_REFERENCES = 14, /* too-many-references */
     TENPHSAR_NO_PRESENTATION = 15,    /* no-presentation */
+    TENPHSAR_NAME_TAKEN = 16,         /* name-taken */
+    TENPHSAR_TOO_MANY_PRESENTATIONS = 17, /* too-many-presentations */
     TENPHSAR_NO_ELEMENT = 18,         /* no-element */
     TENPHSAR_ROOT = 19,               /* root */
     TENPHSAR_NOT_CONTINUOUS = 20,     /* not-continuous */
     TENPHSAR_LOG_FULL = 21,           /* log-full */
     TENPHSAR_BEYOND_HORIZON = 22,     /* beyond-horizon */
     TENPHSAR_DIARY_FULL = 23,         /* diary-full */
-    TENPHSAR_NO_MEMORY = 24           /* memory */
+    TENPHSAR_NO_MEMORY = 24,          /* memory */
+    TENPHSAR_NOT_YET = 25,            /* not-yet */
+    TENPHSAR_BAD_SERIAL = 26,         /* bad-serial */
+    TENPHSAR_NO_ANCHOR = 27           /* no-anchor */
 };
+
+/* Loads a presentation under the name, from an outline: what stands between its line feeds are the lines of the load.
+ * It counts as `load NAME`, these lines, and `%%`; where `start_len` isn't 0 the first line is `load NAME at START`,
+ * and START is the instant of moment 0. A name or an instant that no line can say is refused as not-a-command, and a
+ * line `%%` in the outline as a node that there isn't. The records are what is told of the loaded presentation.
+ * TENPHSAR_BAD_ARGUMENT where the first line is longer than 16,384 bytes; TENPHSAR_LINES already where the session has
+ * had so many lines that this one with its bytes for lines would be too many. */
+int32_t tenphsar_load(tenphsar *session, const char *name, size_t len, const char *start, size_t start_len,
+                      const char *outline, size_t outline_len);
+
+/* Closes the presentation of the name, and gives its memory back. It leaves no records. `close NAME` */
+int32_t tenphsar_unload(tenphsar *session, const char *name, size_t len);
 
 /* Moves on by a length. `NAME advance LENGTH` */
 int32_t tenphsar_advance(tenphsar *session, const char *name, size_t len, int64_t by);
@@ -164,6 +184,16 @@ size_t tenphsar_count(tenphsar *session);
  * `room` of them, and gives how many were copied. The rest of `out` stays as it was. They stand until a line or an
  * order is taken in. */
 size_t tenphsar_changes(tenphsar *session, size_t from, tenphsar_change *out, size_t room);
+
+/* Where the last order by a call was refused: the number of its line, which counts on with each line and each order,
+ * and of a load that of the line at fault; and the column in that line, in bytes from 1. They are those that the line
+ * `! ..` of the refusal would name. 0 where there is none: no column, or the order was carried out, or the last was a
+ * line. A call that answers a number below 0 leaves it, and so does one that had no memory for its texts. An edit counts
+ * its columns as if `NAME set #ELEMENT ` and the like took 63 bytes. */
+typedef struct tenphsar_place {
+    uint32_t line, column;
+} tenphsar_place;
+void tenphsar_fault(tenphsar *session, tenphsar_place *out);
 
 /* The serial of the node with this id in the presentation of this name: 0 where there is no such node or no such
  * presentation, and -1 where there is no memory for the call. A serial stays with its node, also where its id is

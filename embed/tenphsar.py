@@ -34,10 +34,11 @@ STATES = "idle", "waiting", "active", "paused", "deferred", "frozen", "done", "g
 SHOWINGS = "nothing", "playing", "standing", "frozen"
 TIMES = "-", "at", "indefinite", "unresolved", "?"
 WORDS = {
-    4: "bad-outline", 6: "too-deep", 7: "bad-place", 8: "unknown-attribute", 9: "unsupported", 10: "bad-value",
-    11: "too-many-items", 12: "duplicate-id", 13: "too-many-elements", 14: "too-many-references",
-    15: "no-presentation", 18: "no-element", 19: "root", 20: "not-continuous", 21: "log-full", 22: "beyond-horizon",
-    23: "diary-full", 24: "memory",
+    1: "long-line", 2: "not-a-command", 4: "bad-outline", 5: "depth-jump", 6: "too-deep", 7: "bad-place",
+    8: "unknown-attribute", 9: "unsupported", 10: "bad-value", 11: "too-many-items", 12: "duplicate-id",
+    13: "too-many-elements", 14: "too-many-references", 15: "no-presentation", 16: "name-taken",
+    17: "too-many-presentations", 18: "no-element", 19: "root", 20: "not-continuous", 21: "log-full",
+    22: "beyond-horizon", 23: "diary-full", 24: "memory", 25: "not-yet", 26: "bad-serial", 27: "no-anchor",
 }
 
 
@@ -45,7 +46,7 @@ class Refused(Exception):
     """An order that can't be carried out; nothing has changed.
 
     `line` counts the session's lines from 1, `word` is one of docs/REFUSALS.md, and `column` counts the bytes of the
-    line at fault from 1, None where the word has no column. An order that was given by a call has neither.
+    line at fault from 1, None where the word has no column. An order that was given by a call counts as a line.
     """
 
     def __init__(self, word, line=None, column=None):
@@ -98,6 +99,12 @@ class ScreenRecord(ctypes.Structure):
     ]
 
 
+class PlaceRecord(ctypes.Structure):
+    """Where a call was refused, as C has it."""
+
+    _fields_ = [("line", ctypes.c_uint32), ("column", ctypes.c_uint32)]
+
+
 class ChangeRecord(ctypes.Structure):
     """A record as C has it."""
 
@@ -134,6 +141,9 @@ def load_library(path):
         ("answer", size, size, text, size),
         ("moment", time, text, size),
         ("next", time, text, size),
+        ("load", code, text, size, text, size, text, size),
+        ("unload", code, text, size),
+        ("fault", None, ctypes.POINTER(PlaceRecord)),
         ("advance", code, text, size, time),
         ("seek", code, text, size, time),
         ("event", code, text, size, serial, text, size),
@@ -191,6 +201,19 @@ class Session:
             if code == REFUSED:
                 raise Refused.of_answer(answer.decode())
         return answer.decode()
+
+    def load(self, name, outline, start=""):
+        """Loads a presentation under a name, from the lines of an outline, and gives what is told of it, as the list of
+        its changes. `start` is the instant of moment 0, as a line says it.
+
+        Raises what `advance` does; `Refused` has the line at fault, as the session counts the lines.
+        """
+        first, text = start.encode(), outline.encode()
+        return self._change("load", name, first, len(first), text, len(text))
+
+    def unload(self, name):
+        """Closes the presentation of a name. Raises what `advance` does."""
+        self._change("unload", name)
 
     def advance(self, name, by):
         """Moves a presentation on by a length, in milliseconds, and gives what changed, as the list of its changes.
@@ -273,7 +296,9 @@ class Session:
         if WORDS.get(code) == "memory":
             raise MemoryError("no memory for the order")
         if code > 0:
-            raise Refused(WORDS[code])
+            place = PlaceRecord()
+            self._library.tenphsar_fault(self._handle, place)
+            raise Refused(WORDS[code], place.line, place.column or None)
         if code < 0:
             raise ValueError({BAD_ARGUMENT: "no line can say this", OPEN_LOAD: "a load hasn't ended"}.get(
                 code, "the session takes no more lines"))

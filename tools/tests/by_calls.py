@@ -3,8 +3,9 @@
 
 usage: by_calls.py LIBRARY SESSION..
 
-Each order that a call can give is given by it in the second session, and its records, as change lines, must be the
-lines that the first session answers. Writes each difference, and ends with 1 where there is one.
+Each order that a call can give is given by it in the second session, loads and closes too, and its records, as change
+lines, must be the lines that the first session answers; where it is refused its word and its line must be the same, and
+of a load its column. Writes each difference, and ends with 1 where there is one.
 """
 
 import re
@@ -73,6 +74,8 @@ def call_of(words, ids):
             return "event", name, element(node, ids), event
         case [name, "media", node, length] if None not in (milliseconds(length), element(node, ids)):
             return "media", name, element(node, ids), milliseconds(length)
+        case ["close", name]:
+            return "unload", name
         case [name, "key", key] if len(key) == 1:
             return "key", name, key
         case [name, "unset" | "remove" as order, node, *attribute] if element(node, ids) is not None:
@@ -104,46 +107,96 @@ def by_call(session, call, nodes, before):
     """The answer to an order by its call, but for its last line: the lines of its changes, or its refusal's word."""
     order, *given = call
     try:
-        changes = getattr(session, order)(*given)
+        changes = getattr(session, order)(*given) or []
     except Refused as refused:
-        return ["!", refused.word]
+        return ["!", *refusal_of(order, refused)]
     except ValueError:
         return UNSAID
     after = nodes.of(given[0])
     return [line_of(change, before, after) for change in changes]
 
 
-def expected(code, answer):
+def refusal_of(order, refused):
+    """What is compared of a refusal; the columns of an edit by a call are those of another line."""
+    return refused.line, refused.word, refused.column if order == "load" else None
+
+
+def expected(order, code, answer):
     """What a call is to tell of the order that has this answer."""
-    lines = answer.decode().splitlines()
-    return ["!", lines[0].split()[2]] if code == REFUSED else lines[:-1]
+    text = answer.decode()
+    return ["!", *refusal_of(order, Refused.of_answer(text))] if code == REFUSED else text.splitlines()[:-1]
 
 
 def agree(told, wanted):
     """Whether a call told what it is to tell. An order that no line can say is refused where the line is read."""
-    return told == wanted or (told == UNSAID and wanted in (["!", "not-a-command"], ["!", "bad-value"]))
+    return told == wanted or (told == UNSAID and wanted[:1] == ["!"] and wanted[2] in ("not-a-command", "bad-value"))
+
+
+def orders(path):
+    """The orders of a session, each with the number of its first line: a line, or the lines of a load."""
+    load = []
+    for number, line in enumerate(path.read_bytes().split(b"\n"), 1):
+        line = line.removesuffix(b"\r")
+        words = line.split()
+        if load or words[:1] == [b"load"]:
+            load.append(line)
+            if words != [b"%%"]:
+                continue
+        yield number - max(len(load) - 1, 0), load or [line]
+        load = []
+    if load:
+        yield number, load
+
+
+def load_of(lines):
+    """The call that gives a load of these lines; None where a line has no text, or it doesn't end."""
+    try:
+        first, *outline, last = (line.decode() for line in lines)
+    except UnicodeDecodeError:
+        return None
+    if last.split() != ["%%"] or not outline:
+        return None
+    match first.split():
+        case ["load", name]:
+            return "load", name, "\n".join(outline)
+        case ["load", name, "at", start]:
+            return "load", name, "\n".join(outline), start
+    return None
+
+
+def order_of(lines, nodes):
+    """The call that gives an order, or None, and the ids of the nodes before it."""
+    if len(lines) > 1:
+        return load_of(lines), {}
+    said = lines[0].decode("utf-8", "replace")
+    words = said.split()
+    ids = nodes.of(words[0]) if len(words) > 1 and words[0] not in ("load", "close") else {}
+    return (None if said.startswith("#") else call_of(words, ids) or edit_of(said, ids)) or None, ids
+
+
+def give(session, lines):
+    """Gives lines to a session, and gives the code and the answer of the last of them."""
+    return [session.line(line) for line in lines][-1]
 
 
 def compare(library, path):
     """Plays a session, and gives how many orders were given by calls, and the differences."""
     count, differences = 0, []
-    with Session(library) as lines, Session(library) as calls:
-        nodes = Nodes(calls)
-        in_load = False
-        for number, line in enumerate(path.read_bytes().split(b"\n"), 1):
-            words = line.decode("utf-8", "replace").split()
-            ids = nodes.of(words[0]) if len(words) > 1 and not in_load and words[0] != "load" else {}
-            code, answer = lines.line(line.removesuffix(b"\r"))
-            said = line.removesuffix(b"\r").decode("utf-8", "replace")
-            call = None if in_load or said.startswith("#") else call_of(words, ids) or edit_of(said, ids)
+    with Session(library) as by_lines, Session(library) as by_calls, Session(library) as shown:
+        nodes = Nodes(shown)
+        for number, lines in orders(path):
+            call, ids = order_of(lines, nodes)
+            code, answer = give(by_lines, lines)
+            give(shown, lines)
             if not call:
-                calls.line(line.removesuffix(b"\r"))
-            else:
-                count += 1
-                told = by_call(calls, call, nodes, ids)
-                if not agree(told, expected(code, answer)):
-                    differences.append(f"{path}:{number}: {told} instead of {expected(code, answer)}")
-            in_load = (in_load and words[:1] != ["%%"]) or (not in_load and words[:1] == ["load"])
+                give(by_calls, lines)
+                continue
+            count += 1
+            told, wanted = by_call(by_calls, call, nodes, ids), expected(call[0], code, answer)
+            if told == UNSAID:
+                give(by_calls, lines)
+            if not agree(told, wanted):
+                differences.append(f"{path}:{number}: {told} instead of {wanted}")
     return count, differences
 
 

@@ -94,6 +94,37 @@ class Embedded(unittest.TestCase):
             "11000; 1 playing 11000 0; 2 playing 11000 0; 4 playing 8000 0; 5 playing 3000 1; 7 frozen 2000 0",
             "16000; 1 playing 16000 0; 2 playing 16000 0; 7 frozen 2000 0", "[]", "5 None None"]))
 
+    def test_loads(self):
+        text = "\n".join((
+            "from tenphsar import Refused, Session",
+            "def tell(give, *given):",
+            "    try: print(*(' '.join(map(str, one)) for one in give(*given) or []), sep='; ')",
+            "    except Refused as refused: print('!', refused.line, refused.word, refused.column)",
+            "    except ValueError as fault: print(fault)",
+            f"with Session({str(made()[1])!r}) as session:",
+            "    tell(session.load, 'd', 'par\\n\\n  img id=\"a\" dur=\"2s\"')",
+            "    tell(session.load, 'd', 'par')",
+            "    tell(session.load, 'e', 'par\\n  img dur=\"x\"')",
+            "    tell(session.load, 'e', 'par\\n%%')",
+            "    tell(session.load, 'no name', 'par')",
+            "    tell(session.load, 'e', 'par', 'never')",
+            "    tell(session.load, 'e' * 20000, 'par')",
+            "    tell(session.load, 'e', '')",
+            "    tell(session.advance, 'd', 2000)",
+            "    tell(session.advance, 'e', 2000)",
+            "    tell(session.unload, 'e')",
+            "    tell(session.unload, 'd')",
+            "    print(session.moment('d'))",
+            "    session.line(b'load f')",
+            "    tell(session.load, 'f', 'par')",
+            "    tell(session.unload, 'f')"))
+        run = subprocess.run([sys.executable, "-B", "-c", text], cwd=EMBED, capture_output=True, text=True, check=False)
+        self.assertEqual((run.stderr, run.stdout.splitlines()), ("", [
+            "0 1 active 0 2000 0 0; 0 2 active 0 2000 0 0", "! 6 name-taken None", "! 11 bad-value 12",
+            "! 15 bad-outline None", "! 17 not-a-command None", "! 20 not-a-command None", "no line can say this",
+            "! 25 bad-outline None", "2000 1 frozen 0 2000 0 1; 2000 2 done 0 2000 0 1", "! 27 no-presentation None",
+            "! 28 no-presentation None", "", "None", "a load hasn't ended", "a load hasn't ended"]))
+
     def test_usage(self):
         self.assertIn("usage: tenphsar.py", call(EMBED / "tenphsar.py")[2])
 

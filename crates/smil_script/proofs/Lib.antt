@@ -1,2 +1,3 @@
+pub mod CopiedLines
 pub mod EventNames
 pub mod SerialNumbers

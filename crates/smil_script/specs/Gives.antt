@@ -1,5 +1,5 @@
 -- What reading a line gives.
-use Rattle.std.specs.Prelude.{◌≡◌, ℕ, ℤ, List, [], ◌∷◌, Option, Some, None, Result, Ok, Err, codes}
+use Rattle.std.specs.Prelude.{◌≡◌, ℕ, ℤ, List, [], ◌∷◌, Option, Some, None, is_some, true, Result, Ok, Err, codes}
 use Rattle.smil_model.specs.declared.order.Refusal.{Refusal}
 use Rattle.smil_model.specs.declared.order.Refusal.TheVariants as refusal
 use Rattle.smil_model.specs.shown.Answers.{IsGiven}
@@ -18,7 +18,7 @@ HoldsGiven _ = Unit {0}
 abbrev pub GivesWho : Result (Who × Piece) Refusal → Piece → Type 0
 GivesWho (Ok named) line =
     (who_of (first_of line).0.text ≡ Some named.0) × (named.1 ≡ (first_of line).1)
-GivesWho (Err refusal.Memory) line = Unit {0}
+GivesWho (Err refusal.Memory) line = is_some (who_of (first_of line).0.text) ≡ true
 GivesWho (Err given) line = (who_of (first_of line).0.text ≡ None) × (given ≡ refusal.NotACommand)
 
 -- an order with its clock value

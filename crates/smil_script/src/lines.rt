@@ -1,12 +1,13 @@
 //! Lines by their first word.
 
-ghost use Rattle.std.specs.Prelude.{◌≡◌, IsTrue, IfOk, Ok};
+ghost use Rattle.std.specs.Prelude.{◌≡◌, ◌||◌, IsTrue, IfOk, Ok, is_ok, is_some};
 ghost use Rattle.std.specs.List.{list_all};
 ghost use Rattle.smil_model.specs.shown.Answers.{IsText};
 ghost use Rattle.smil_grammar.specs.Texts.{is_white as is_white_byte};
 ghost use Rattle.smil_grammar.specs.Scripts.{line_of, is_blank as is_blank_line, to as to_name, finish, order_line, command as command_line, first_of, close_line, start_line, load_behind as load_behind_name, load_line, is_preference as is_preference_line, prefer_line, behind_name as behind_first_name, or_refused, opens_load as opens_load_line};
 ghost use Rattle.smil_grammar.specs.declared.read.Read.TheVariants.{Blank};
 ghost use Rattle.smil_grammar.specs.Gives.{GivesReading};
+ghost use Rattle.smil_script.specs.Copies.{IsForCopy, behind_name_copies, line_copies, names_element, order_copies};
 ghost use Rattle.smil_script.specs.Gives.{HoldsGiven};
 ghost use Rattle.smil_script.specs.Loads.{ends_load as ends_load_line};
 
@@ -38,6 +39,7 @@ fn is_all_white(line: &[u8]) -> bool
 // `close`: a name.
 fn close(alloc: Global, line: &Piece<'_>) -> Result<Read, Refusal>
     ensures reading { GivesReading result (or_refused (close_line line.now)) }
+    ensures copied { IsForCopy (is_some (close_line line.now)) result }
     ensures given { IfOk result HoldsGiven }
 {
     let (word, rest) = line.first();
@@ -51,6 +53,7 @@ fn close(alloc: Global, line: &Piece<'_>) -> Result<Read, Refusal>
 // The instant of moment 0 of a load, behind `at`.
 fn start(alloc: Global, name: &[u8], line: &Piece<'_>) -> Result<Read, Refusal>
     ensures reading { GivesReading result (or_refused (start_line name.now line.now)) }
+    ensures copied { IsForCopy (is_some (start_line name.now line.now)) result }
     ensures given { IfOk result HoldsGiven }
 {
     let (word, rest) = line.first();
@@ -67,6 +70,7 @@ fn start(alloc: Global, name: &[u8], line: &Piece<'_>) -> Result<Read, Refusal>
 // What stands behind the name of a load: nothing, or `at` and an instant.
 fn load_behind(alloc: Global, name: &[u8], line: &Piece<'_>) -> Result<Read, Refusal>
     ensures reading { GivesReading result (or_refused (load_behind_name name.now line.now)) }
+    ensures copied { IsForCopy (is_some (load_behind_name name.now line.now)) result }
     ensures given { IfOk result HoldsGiven }
 {
     if line.is_ended() {
@@ -83,6 +87,7 @@ fn load_behind(alloc: Global, name: &[u8], line: &Piece<'_>) -> Result<Read, Ref
 // `load`: a name, and the instant of moment 0 where one is given.
 fn load(alloc: Global, line: &Piece<'_>) -> Result<Read, Refusal>
     ensures reading { GivesReading result (or_refused (load_line line.now)) }
+    ensures copied { IsForCopy (is_some (load_line line.now)) result }
     ensures given { IfOk result HoldsGiven }
 {
     let (word, rest) = line.first();
@@ -108,6 +113,7 @@ fn is_preference(first: &[u8], second: &[u8]) -> bool
 // The value that is preferred for a word: one word, which may have no reading.
 fn prefer(alloc: Global, word: &[u8], line: &Piece<'_>) -> Result<Read, Refusal>
     ensures reading { GivesReading result (or_refused (prefer_line word.now line.now)) }
+    ensures copied { IsForCopy (is_some (prefer_line word.now line.now)) result }
     ensures given { IfOk result HoldsGiven }
 {
     let (value, rest) = line.first();
@@ -123,6 +129,7 @@ fn prefer(alloc: Global, word: &[u8], line: &Piece<'_>) -> Result<Read, Refusal>
 fn to(alloc: Global, name: &[u8], verb: &[u8], line: &Piece<'_>) -> Result<Read, Refusal>
     ensures reading { GivesReading result
         (to_name name.now (finish (order_line verb.now line.now))) }
+    ensures copied { IsForCopy (order_copies verb.now line.now) result }
     ensures given { IfOk result HoldsGiven }
 {
     let order = order(alloc, verb, line)?;
@@ -131,8 +138,11 @@ fn to(alloc: Global, name: &[u8], verb: &[u8], line: &Piece<'_>) -> Result<Read,
 }
 
 // A line behind its first word, which is a presentation's name unless the line prefers a value.
+#[tactic(auto, using(crate::proofs::CopiedLines::named_ok))]
 fn behind_name(alloc: Global, name: &[u8], line: &Piece<'_>) -> Result<Read, Refusal>
     ensures reading { GivesReading result (behind_first_name name.now (first_of line.now)) }
+    ensures copied { IsForCopy (is_ok (behind_first_name name.now (first_of line.now))
+        || names_element (first_of line.now).0.text (first_of line.now).1) result }
     ensures given { IfOk result HoldsGiven }
 {
     let (verb, rest) = line.first();
@@ -143,8 +153,11 @@ fn behind_name(alloc: Global, name: &[u8], line: &Piece<'_>) -> Result<Read, Ref
 }
 
 // A line that isn't blank, by its first word.
+#[tactic(auto, using(crate::proofs::CopiedLines::said_ok))]
 fn command(alloc: Global, line: &Piece<'_>) -> Result<Read, Refusal>
     ensures reading { GivesReading result (command_line (first_of line.now)) }
+    ensures copied { IsForCopy (is_ok (command_line (first_of line.now))
+        || behind_name_copies (first_of line.now).0.text (first_of (first_of line.now).1)) result }
     ensures given { IfOk result HoldsGiven }
 {
     let (word, rest) = line.first();
@@ -162,12 +175,13 @@ fn command(alloc: Global, line: &Piece<'_>) -> Result<Read, Refusal>
 /// What a script line without its line feed says. A line of white space alone, and one whose first
 /// byte is `#`, are `Blank` and take no memory. Every other line without a reading is refused as
 /// `NotACommand`, and one that has a reading but for its clock value as `BadValue` with the clock
-/// value's column, counted in bytes from 1. `Memory` may come where a name or an order is read. An
-/// order that is read is one that a presentation may be given. A line has fewer than 2,147,483,648
-/// bytes.
+/// value's column, counted in bytes from 1. `Memory` comes only where something is copied: in a
+/// line that has a reading, and in an order that names an element. An order that is read is one
+/// that a presentation may be given. A line has fewer than 2,147,483,648 bytes.
 pub fn read_line(alloc: Global, line: &[u8]) -> Result<Read, Refusal>
     requires { IsText line.now }
     ensures reading { GivesReading result (line_of line.now) }
+    ensures copied { IsForCopy (line_copies line.now) result }
     ensures blank { IsTrue (is_blank_line line.now) → result ≡ Ok Blank }
     ensures given { IfOk result HoldsGiven }
 {

@@ -3,6 +3,7 @@
 ghost use Rattle.std.specs.Prelude.{◌≡◌, IfOk};
 ghost use Rattle.smil_grammar.specs.Scripts.{order_line, finish};
 ghost use Rattle.smil_grammar.specs.Gives.{GivesReading};
+ghost use Rattle.smil_script.specs.Copies.{IsForCopy, order_copies};
 ghost use Rattle.smil_model.specs.shown.Answers.{IsGiven};
 
 use super::piece::Piece;
@@ -14,6 +15,7 @@ use std::alloc::Global;
 /// The order of a verb and what stands behind it.
 pub fn order(alloc: Global, verb: &[u8], line: &Piece<'_>) -> Result<Order, Refusal>
     ensures reading { GivesReading result (finish (order_line verb.now line.now)) }
+    ensures copied { IsForCopy (order_copies verb.now line.now) result }
     ensures given { IfOk result IsGiven }
 {
     if is(verb, b"advance") {

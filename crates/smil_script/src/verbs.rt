@@ -1,13 +1,14 @@
 //! Orders, each behind its verb.
 
-ghost use Rattle.std.specs.Prelude.{◌≡◌, ◌<◌, ◌+◌, ℤ, true, IfOk, IfSome, option_map, length};
-ghost use Rattle.smil_grammar.specs.Scripts.{with_clock, with_who, event_line, key_line, stack_line, unset_line, set_line, insert_line, finish, given as given_reading, at_end, quoted as quoted_of};
+ghost use Rattle.std.specs.Prelude.{◌≡◌, ◌<◌, ◌+◌, ℤ, true, false, is_some, IfOk, IfSome, option_map, length};
+ghost use Rattle.smil_grammar.specs.Scripts.{first_of, who_of, with_clock, with_who, event_line, key_line, stack_line, unset_line, set_line, insert_line, finish, given as given_reading, at_end, quoted as quoted_of};
 ghost use Rattle.smil_grammar.specs.Gives.{GivesReading};
 ghost use Rattle.smil_model.specs.declared.order.Order.{Order as OrderValue};
 ghost use Rattle.smil_model.specs.declared.order.Order.TheVariants as order_value;
 ghost use Rattle.smil_model.specs.declared.limits.TheConstants.{TEXT_BYTES};
 ghost use Rattle.smil_model.specs.document.Values.{is_clock};
 ghost use Rattle.smil_model.specs.shown.Answers.{IsGiven, IsName};
+ghost use Rattle.smil_script.specs.Copies.{IsForCopy};
 ghost use Rattle.smil_script.specs.Gives.{GivesWho, with_value};
 
 use super::piece::Piece;
@@ -30,6 +31,7 @@ fn column(place: usize) -> u32
 /// An order at the end of its line.
 pub fn ended(line: &Piece<'_>, order: Order) -> Result<Order, Refusal>
     ensures reading { result ≡ finish (at_end line.now (given_reading order)) }
+    ensures free { IsForCopy false result }
     ensures same { IfOk result (λ given. given ≡ order) }
 {
     if line.is_ended() {
@@ -44,6 +46,7 @@ pub fn ended(line: &Piece<'_>, order: Order) -> Result<Order, Refusal>
 fn clock(line: &Piece<'_>) -> Result<i64, Refusal>
     ensures reading { (made : ℤ → OrderValue)
         → finish (with_clock made line.now) ≡ with_value made result }
+    ensures free { IsForCopy false result }
     ensures clock { IfOk result (λ value. is_clock value ≡ true) }
 {
     let (word, rest) = line.first();
@@ -71,6 +74,7 @@ fn named<'a>(alloc: Global, line: &Piece<'a>) -> Result<(Who, Piece<'a>), Refusa
 /// `advance`: a length.
 pub fn advance(line: &Piece<'_>) -> Result<Order, Refusal>
     ensures reading { GivesReading result (finish (with_clock order_value.Advance line.now)) }
+    ensures free { IsForCopy false result }
     ensures given { IfOk result IsGiven }
 {
     let by = clock(line)?;
@@ -80,6 +84,7 @@ pub fn advance(line: &Piece<'_>) -> Result<Order, Refusal>
 /// `seek`: a moment.
 pub fn seek(line: &Piece<'_>) -> Result<Order, Refusal>
     ensures reading { GivesReading result (finish (with_clock order_value.Seek line.now)) }
+    ensures free { IsForCopy false result }
     ensures given { IfOk result IsGiven }
 {
     let to = clock(line)?;
@@ -100,6 +105,7 @@ fn event_of(alloc: Global, who: Who, line: &Piece<'_>) -> Result<Order, Refusal>
 /// `event`: an element and the event's name.
 pub fn event(alloc: Global, line: &Piece<'_>) -> Result<Order, Refusal>
     ensures reading { GivesReading result (finish (with_who event_line line.now)) }
+    ensures copied { IsForCopy (is_some (who_of (first_of line.now).0.text)) result }
     ensures given { IfOk result IsGiven }
 {
     let (who, rest) = named(alloc, line)?;
@@ -110,6 +116,7 @@ pub fn event(alloc: Global, line: &Piece<'_>) -> Result<Order, Refusal>
 pub fn media(alloc: Global, line: &Piece<'_>) -> Result<Order, Refusal>
     ensures reading { GivesReading result
         (finish (with_who (λ who. with_clock (order_value.Media who)) line.now)) }
+    ensures copied { IsForCopy (is_some (who_of (first_of line.now).0.text)) result }
     ensures given { IfOk result IsGiven }
 {
     let (who, line) = named(alloc, line)?;
@@ -137,6 +144,7 @@ fn quoted<'a>(line: &Piece<'a>) -> Option<Piece<'a>>
 /// `set`: an element, an attribute's name and its value between quotes.
 pub fn set(alloc: Global, line: &Piece<'_>) -> Result<Order, Refusal>
     ensures reading { GivesReading result (finish (with_who set_line line.now)) }
+    ensures copied { IsForCopy (is_some (who_of (first_of line.now).0.text)) result }
     ensures given { IfOk result IsGiven }
 {
     let (who, line) = named(alloc, line)?;
@@ -155,6 +163,7 @@ pub fn set(alloc: Global, line: &Piece<'_>) -> Result<Order, Refusal>
 /// `unset`: an element and an attribute's name.
 pub fn unset(alloc: Global, line: &Piece<'_>) -> Result<Order, Refusal>
     ensures reading { GivesReading result (finish (with_who unset_line line.now)) }
+    ensures copied { IsForCopy (is_some (who_of (first_of line.now).0.text)) result }
     ensures given { IfOk result IsGiven }
 {
     let (who, line) = named(alloc, line)?;
@@ -173,6 +182,7 @@ pub fn unset(alloc: Global, line: &Piece<'_>) -> Result<Order, Refusal>
 /// `insert`: an element, a place and a node line to the end of the line.
 pub fn insert(alloc: Global, line: &Piece<'_>) -> Result<Order, Refusal>
     ensures reading { GivesReading result (finish (with_who insert_line line.now)) }
+    ensures copied { IsForCopy (is_some (who_of (first_of line.now).0.text)) result }
     ensures given { IfOk result IsGiven }
 {
     let (who, line) = named(alloc, line)?;
@@ -193,6 +203,7 @@ pub fn insert(alloc: Global, line: &Piece<'_>) -> Result<Order, Refusal>
 /// `key`: one byte, which is an access key.
 pub fn key(line: &Piece<'_>) -> Result<Order, Refusal>
     ensures reading { result ≡ finish (key_line line.now) }
+    ensures free { IsForCopy false result }
     ensures given { IfOk result IsGiven }
 {
     let (word, rest) = line.first();
@@ -205,6 +216,7 @@ pub fn key(line: &Piece<'_>) -> Result<Order, Refusal>
 /// `stack`: an element and an attribute's name.
 pub fn stack(alloc: Global, line: &Piece<'_>) -> Result<Order, Refusal>
     ensures reading { GivesReading result (finish (with_who stack_line line.now)) }
+    ensures copied { IsForCopy (is_some (who_of (first_of line.now).0.text)) result }
     ensures given { IfOk result IsGiven }
 {
     let (who, line) = named(alloc, line)?;
@@ -218,6 +230,7 @@ pub fn remove(alloc: Global, line: &Piece<'_>) -> Result<Order, Refusal>
     ensures reading { GivesReading result
         (finish (with_who (λ who rest. at_end rest (given_reading (order_value.Remove who)))
         line.now)) }
+    ensures copied { IsForCopy (is_some (who_of (first_of line.now).0.text)) result }
     ensures given { IfOk result IsGiven }
 {
     let (who, rest) = named(alloc, line)?;
@@ -229,6 +242,7 @@ pub fn history(alloc: Global, line: &Piece<'_>) -> Result<Order, Refusal>
     ensures reading { GivesReading result
         (finish (with_who (λ who rest. at_end rest (given_reading (order_value.History who)))
         line.now)) }
+    ensures copied { IsForCopy (is_some (who_of (first_of line.now).0.text)) result }
     ensures given { IfOk result IsGiven }
 {
     let (who, rest) = named(alloc, line)?;

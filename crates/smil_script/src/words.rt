@@ -10,6 +10,7 @@ ghost use Rattle.smil_grammar.specs.Gives.{GivesReading};
 ghost use Rattle.smil_model.specs.declared.order.Refusal.TheVariants.{NotACommand, Memory};
 ghost use Rattle.smil_model.specs.document.Words.{is_event_name as is_event_word, is_raised_name, is_of_attribute};
 ghost use Rattle.smil_model.specs.shown.Answers.{IsName, IsText};
+ghost use Rattle.smil_script.specs.Copies.{IsForCopy};
 ghost use Rattle.smil_script.specs.Gives.{GivesName, other_names};
 
 use smil_lexis::runs;
@@ -56,6 +57,7 @@ pub fn own(alloc: Global, text: &[u8]) -> Result<Bytes, Refusal>
 // An id that is all of a word.
 fn id(alloc: Global, text: &[u8]) -> Result<Bytes, Refusal>
     ensures reading { GivesReading result (ok_or (id_of text.now) NotACommand) }
+    ensures copied { IsForCopy (is_some (id_of text.now)) result }
     ensures same { IfOk result (λ id. id ≡ text.now) }
 {
     if text.is_empty() || runs::id(text, false) != text.len() {
@@ -68,6 +70,7 @@ fn id(alloc: Global, text: &[u8]) -> Result<Bytes, Refusal>
 pub fn who(alloc: Global, text: &[u8]) -> Result<Who, Refusal>
     requires { IsText text.now }
     ensures reading { GivesReading result (ok_or (who_of text.now) NotACommand) }
+    ensures copied { IsForCopy (is_some (who_of text.now)) result }
     ensures name { IfOk result IsName }
 {
     match behind(text, b'#') {

@@ -8,8 +8,8 @@ use smil_interval::Steps;
 use smil_model::{Bytes, GrowingList, LINE_BYTES, Order, Refusal};
 use smil_report::{Change, Name, put_change, put_gone};
 use smil_script::{Read, read_line};
-use smil_test_cases::{Fault, put, put_maybe};
-use smil_top::{CallRefusal, Held};
+use smil_test_cases::{Fault, put, put_maybe, put_number};
+use smil_top::{CallRefusal, Fault as CallFault, Held};
 use std::alloc::{AllocError, Global};
 use std::marker::Brand;
 use std::sync::ledger::{Blank, Ledger};
@@ -27,6 +27,12 @@ enum Request {
     Line(Bytes),
     // It gives the order that a line says, by a call.
     Order(Bytes),
+    // It loads a presentation by a call: the line that opens the load, and the outline.
+    Load { head: Bytes, outline: Bytes },
+    // It closes the presentation of this name by a call.
+    Close(Bytes),
+    // It asks where the last call was refused.
+    Fault,
     // It asks at which moment the presentation of this name is.
     Moment(Bytes),
     // It asks at which moment something comes next in it.
@@ -47,6 +53,9 @@ impl Requests {
         let request = match mark {
             "" => Request::Line(bytes),
             "call" => Request::Order(bytes),
+            "load" => load_of(alloc, text)?,
+            "close" => Request::Close(bytes),
+            "fault" => Request::Fault,
             "moment" => Request::Moment(bytes),
             "next" => Request::Next(bytes),
             _ => return Err(Fault::Refused),
@@ -59,6 +68,19 @@ impl Requests {
     pub fn answer(&self, alloc: Global, told: &mut Bytes) -> Result<(), Fault> {
         answer_each::<Brand>(alloc, self.list.slice(), Blank::new(1), told)
     }
+}
+
+// A load by a call: the line that opens it, and the lines of its outline, each behind a bar.
+fn load_of(alloc: Global, text: &str) -> Result<Request, Fault> {
+    let (head, lines) = text.split_once('|').unwrap_or((text, ""));
+    let mut outline = Bytes::new(alloc);
+    for byte in lines.as_bytes() {
+        outline.push(if *byte == b'|' { b'\n' } else { *byte })?;
+    }
+    Ok(Request::Load {
+        head: Bytes::of(alloc, head.as_bytes())?,
+        outline,
+    })
 }
 
 // Appends what a session answers to each request, whose evaluations are counted from 0.
@@ -78,6 +100,11 @@ fn answer_each<L: Ledger>(
         match request {
             Request::Line(line) => answer_line(&mut held, line, &mut steps, told)?,
             Request::Order(line) => answer_call(alloc, &mut held, line, &mut steps, told)?,
+            Request::Load { head, outline } => {
+                answer_load(&mut held, head, outline, &mut steps, told)?
+            }
+            Request::Close(name) => put_done(told, held.close(name.slice()))?,
+            Request::Fault => put_fault(told, held.fault())?,
             Request::Moment(name) => put_answer(told, "moment", held.moment(name.slice()))?,
             Request::Next(name) => put_answer(told, "next", held.next_due(name.slice()))?,
         }
@@ -121,6 +148,25 @@ fn answer_call<L: Ledger>(
         put_record(told, change)?;
     }
     put_end(told, answered)?;
+    Ok(())
+}
+
+// Loads a presentation by a call, and appends what is told of it and how the call ended.
+fn answer_load<L: Ledger>(
+    held: &mut Held,
+    head: &Bytes,
+    outline: &Bytes,
+    steps: &mut Steps<L>,
+    told: &mut Bytes,
+) -> Result<(), Fault> {
+    if head.len() > LINE_BYTES {
+        return Err(Fault::Refused);
+    }
+    let loaded = held.load(head.slice(), outline.slice(), steps);
+    for change in held.changes() {
+        put_record(told, change)?;
+    }
+    put_done(told, loaded)?;
     Ok(())
 }
 
@@ -168,14 +214,42 @@ fn put_record(told: &mut Bytes, change: &Change) -> Result<(), AllocError> {
 fn put_end(told: &mut Bytes, answered: Result<i64, CallRefusal>) -> Result<(), AllocError> {
     match answered {
         Ok(now) => put_answer(told, "ok", Some(now)),
-        Err(CallRefusal::Refused(refusal)) => {
+        Err(refusal) => put_refusal(told, refusal),
+    }
+}
+
+// How a load or a close by a call ended.
+fn put_done(told: &mut Bytes, answered: Result<(), CallRefusal>) -> Result<(), AllocError> {
+    match answered {
+        Ok(()) => put(told, "ok\n"),
+        Err(refusal) => put_refusal(told, refusal),
+    }
+}
+
+// Why a call changed nothing.
+fn put_refusal(told: &mut Bytes, refusal: CallRefusal) -> Result<(), AllocError> {
+    match refusal {
+        CallRefusal::Refused(refusal) => {
             put(told, "! ")?;
             put(told, refusal.word())?;
             told.push(b'\n')
         }
-        Err(CallRefusal::OpenLoad) => put(told, "open load\n"),
-        Err(CallRefusal::TooManyCalls) => put(told, "too many\n"),
+        CallRefusal::OpenLoad => put(told, "open load\n"),
+        CallRefusal::TooManyCalls => put(told, "too many\n"),
     }
+}
+
+// Where the last call was refused: the line, and the column where there is one; `-` where it wasn't.
+fn put_fault(told: &mut Bytes, fault: Option<CallFault>) -> Result<(), AllocError> {
+    let Some(fault) = fault else {
+        return put(told, "fault -\n");
+    };
+    put(told, "fault")?;
+    put_number(told, u64::from(fault.line))?;
+    if let Some(column) = fault.refusal.column() {
+        put_number(told, u64::from(column))?;
+    }
+    told.push(b'\n')
 }
 
 // A line of a word and the moment that it asks for, `-` where there is none.

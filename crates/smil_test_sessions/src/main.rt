@@ -26,6 +26,9 @@
 //! | `held` | a session that a host holds; it has no words |
 //! | `\|TEXT` | a line that the host gives it, without an end |
 //! | `call\|TEXT` | the order that this line says, given by a call |
+//! | `load\|HEAD\|LINE..` | a load by a call: the line that opens it, and those of its outline |
+//! | `close\|NAME` | the presentation of this name is closed by a call |
+//! | `fault\|` | the host asks where the last call was refused |
 //! | `moment\|NAME` | the host asks at which moment the presentation of this name is |
 //! | `next\|NAME` | .. and at which moment something comes next in it |
 //! | `end` | all that is asked is answered |
@@ -34,8 +37,9 @@
 //! and the number of its header among all headers, the transcript as it was taken, and `exit` with
 //! the exit number. Of one that a host holds, which has no exit number, the answers to its lines are
 //! written, and each moment that was asked for, with `-` where there is none; of an order by a call
-//! its records, as change lines with serials, and `ok` with the moment, or the refusal. A line that
-//! has no reading is left out, and told as `refused` with its number among the lines; so is a header whose
+//! its records, as change lines with serials, and `ok` with the moment, or the refusal; of a load and
+//! a close the same without the moment, and of a fault its line and its column. A line that has no
+//! reading is left out, and told as `refused` with its number among the lines; so is a header whose
 //! session has no end. `memory` in place of `refused` says that memory ran out at the line.
 #![tactic(auto)]
 

@@ -244,7 +244,7 @@ refusal-of name slice house r same is = ap (λ n. load_refusal n house) (sym sam
 
 module _ (given : LoadedDocument) (so_far : SessionSoFar) (session : Session) (number : ℕ) (keeps : Keeps so_far session) where
   -- the session with one more
-  abbrev joined : Presentation → Session
+  abbrev pub joined : Presentation → Session
   joined p = record session { held = session.held ++ record { name = given.name; presentation = p } ∷ [] }
 
   may : may_load given.name session ≡ load_refusal given.name so_far.house
@@ -256,21 +256,29 @@ module _ (given : LoadedDocument) (so_far : SessionSoFar) (session : Session) (n
     session = joined p;
   })
 
+  pub joined-keeps : (p : Presentation) → load_refusal given.name so_far.house ≡ Ok tt →
+      Keeps (in_house so_far (so_far.house ++ record { name = given.name; player = p } ∷ [])) (joined p)
+  joined-keeps p free =
+      let h : NamedPlayer Presentation = record { name = given.name; player = p } in
+      record {
+        held = record {
+          session_is = ap (λ (zs : List NamedPresentation). zs ++ record { name = given.name; presentation = p } ∷ []) keeps.held.session_is ∙ sym (added-session so_far.house h);
+          apart = added-apart so_far.house h keeps.held.apart (may_load-free given.name so_far.house free);
+        };
+        wanted = keeps.wanted;
+      }
+
+  pub loaded-is : (p : Presentation) → load_refusal given.name so_far.house ≡ Ok tt → opened given.document ≡ Ok p →
+      loaded_within limits session number given ≡ Ok (record { text = load_text p ++ ok_line number given.name (pos p.now); session = joined p })
+  loaded-is p free is = ap (λ f. loaded_by f (opened given.document)) (may ∙ free) ∙ ap (loaded_by (Ok tt)) is
+
   pub made-loaded : (p : Presentation) (told : List ℕ) → load_refusal given.name so_far.house ≡ Ok tt → opened given.document ≡ Ok p → told ≡ load_text p →
       Makes (Ok tt) (record { told = told; last = ok_line number given.name (pos 0) }) (in_house so_far (so_far.house ++ record { name = given.name; player = p } ∷ [])) session (loaded_within limits session number given)
   made-loaded p told free is text_is =
-      let h : NamedPlayer Presentation = record { name = given.name; player = p } in
       let line : ok_line number given.name (pos 0) ≡ ok_line number given.name (pos p.now) = ap (λ n. ok_line number given.name (pos n)) (sym (opened-now given.document p is)) in (
         joined p,
-        record {
-          held = record {
-            session_is = ap (λ (zs : List NamedPresentation). zs ++ record { name = given.name; presentation = p } ∷ []) keeps.held.session_is ∙ sym (added-session so_far.house h);
-            apart = added-apart so_far.house h keeps.held.apart (may_load-free given.name so_far.house free);
-          };
-          wanted = keeps.wanted;
-        },
-        ap (λ f. loaded_by f (opened given.document)) (may ∙ free)
-            ∙ ap (loaded_by (Ok tt)) is
+        joined-keeps p free,
+        loaded-is p free is
             ∙ ap (λ zs. Ok (record { text = zs; session = joined p })) (ap (λ zs. load_text p ++ zs) (sym line) ∙ ap (λ zs. zs ++ ok_line number given.name (pos 0)) (sym text_is)),
       )
 

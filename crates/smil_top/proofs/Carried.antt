@@ -9,9 +9,11 @@ use Rattle.smil_model.specs.shown.Answers.{IsRefusedBy, answer_text}
 use Rattle.smil_model.specs.shown.Lines.{ok_line}
 use Rattle.smil_model.specs.shown.Orders.{Presentation, outcome}
 use Rattle.smil_grammar.specs.declared.read.Read.{Read}
+use Rattle.smil_grammar.specs.declared.read.Read.TheVariants.{To}
 use Rattle.smil_grammar.specs.Formats.{formats}
 use Rattle.smil_grammar.specs.Results.{◌>>=◌}
 use Rattle.smil_grammar.specs.Scripts.{line_of}
+use Rattle.smil_script.specs.Copies.{line_copies}
 use Rattle.smil_house.specs.House.{AreKept, IsRecordedBy, IsRefused}
 use Rattle.smil_outside.specs.Faults.{last_count}
 use Rattle.smil_report.specs.declared.records.Change.{Change}
@@ -29,6 +31,7 @@ use Rattle.smil_top.specs.Running.{AreCounted, EvaluatesOn, IsCounted, Makes, Ma
 use Rattle.smil_top.specs.Session.{Session, presentation_of, with_state}
 use Rattle.smil_top.specs.Summary.{line_count}
 use Rattle.smil_top.specs.Transcript.{TranscriptState, and_then, with_answer}
+use Rattle.smil_top.proofs.CopiedLines.{copied-any, copied-read}
 use Rattle.smil_top.proofs.CutLines.{is_short-true}
 use Rattle.smil_top.proofs.EvaluationCounts.{counted-ordered, counted-same, counted-unordered, counted-single, evaluated-on}
 use Rattle.smil_top.proofs.AnswersMade.{every, held-at, held-nowhere, in_house, itself, kept-keeps, the_formats, told_least, told_most, turned-keeps}
@@ -136,13 +139,14 @@ module _ (name : List ℕ) (order : Order) (so_far : SessionSoFar) (session : Se
 
   pub recorded-made : (r : Result ℤ Refusal) → (is : Records r changes so_far session name order) →
       MakesAnswer (at_line number (done r)) (text_by name order so_far session changes number r is) so_far session answer_of this
-  recorded-made r is = single-made false (done r) (text_by name order so_far session changes number r is) so_far session number line says.short (makes r is)
+  recorded-made r is = single-made false (done r) (text_by name order so_far session changes number r is) so_far session number line says.short
+      (copied-any (line_copies line) (done r) (copied-read line (To name order) says.reading)) (makes r is)
 
-never-below : (n : ℕ) → n < n → ⊥
+pub never-below : (n : ℕ) → n < n → ⊥
 never-below n below = omega arith
 
 -- whether memory ran out doesn't hang on how many lines are counted
-same-memory : (answered : Result (Unit {0}) Fault) (lines more : ℕ) (counts : Counts) → (with_order answered lines counts).memory ≡ (with_order answered more counts).memory
+pub same-memory : (answered : Result (Unit {0}) Fault) (lines more : ℕ) (counts : Counts) → (with_order answered lines counts).memory ≡ (with_order answered more counts).memory
 same-memory (Ok done) lines more counts = refl
 same-memory (Err fault) lines more counts = refl
 

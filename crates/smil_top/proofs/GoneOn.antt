@@ -1,20 +1,23 @@
 -- A session that is given an order by a call goes on as by a line that says it.
-use Rattle.std.proofs.Common.{◌≡◌, ℕ, ℤ, suc, false, List, [], ◌∷◌, ◌++◌, Option, Some, None, Result, refl, sym, subst, ◌∙◌}
+use Rattle.std.proofs.Common.{◌≡◌, ◌≤◌, ℕ, suc, length, false, List, [], ◌∷◌, ◌++◌, Option, Some, None, Result, refl, sym, subst, ◌∙◌}
 use Rattle.std.specs.Prelude.{is_some, true}
+use Rattle.smil_model.specs.declared.limits.TheConstants.{LINE_BYTES}
 use Rattle.smil_model.specs.declared.order.Order.{Order}
 use Rattle.smil_model.specs.declared.order.Refusal.{Refusal}
+use Rattle.smil_grammar.specs.declared.read.Read.TheVariants.{Close, To}
+use Rattle.smil_grammar.specs.Scripts.{is_blank, opens_load}
 use Rattle.smil_switch.specs.Preferences.{Wanted}
 use Rattle.smil_top.specs.declared.counts.Counts.{Counts}
 use Rattle.smil_top.specs.declared.held.Held.{Held}
 use Rattle.smil_top.specs.declared.load.Load.{Load}
 use Rattle.smil_top.specs.Cut.{CutLines, LoadLines, single, with_line}
-use Rattle.smil_top.specs.Recorded.{GoesOn, Says, answered_by, next_single}
+use Rattle.smil_top.specs.Recorded.{GoesOn, Says, SaysClose, answered_by, next_single}
 use Rattle.smil_top.specs.Running.{EvaluatesOn, IsOpen, IsRunning, Tells}
 use Rattle.smil_top.specs.Transcript.{TranscriptState, with_answer}
 use Rattle.smil_top.proofs.CutLines.{cut-single}
 use Rattle.smil_top.proofs.OrderCuts.{count-with_line}
 use Rattle.smil_top.proofs.EvaluationCounts.{evaluated-cut}
-use Rattle.smil_top.proofs.SaidLines.{said-no_blank, said-no_load}
+use Rattle.smil_top.proofs.SaidLines.{apart-close, apart-to, said-no_blank, said-no_load}
 
 -- a load that is open has lines
 pub has-lines : (load : Option Load) (wanted : Wanted) (lines : Option LoadLines) → IsOpen load wanted lines → is_some load ≡ true → is_some lines ≡ true
@@ -33,11 +36,27 @@ pub is-none : (load : Option Load) → is_some load ≡ false → load ≡ None
 is-none None none = refl
 is-none (Some load) none = absurd cc
 
-module _ (name : List ℕ) (order : Order) (cut : CutLines) (line : List ℕ) (says : Says line name order) (out : cut.«open» ≡ None) where
-  cut-is : with_line cut line ≡ record { count = suc cut.count; whole = cut.whole ++ next_single cut line ∷ []; «open» = None }
-  cut-is = cut-single cut (suc cut.count) line refl out says.short (said-no_load name order line says.reading) (said-no_blank name order line says.reading)
+-- a line that is an order
+pub record IsSingle (line : List ℕ) : Type 0 where
+  pub short : length line ≤ LINE_BYTES
+  pub no_load : opens_load line ≡ false
+  pub no_blank : is_blank line ≡ false
 
-  pub goes-on : (r : Result ℤ Refusal) (held : Held) (told : TranscriptState) (number : ℕ) → number ≡ suc cut.count → held.number ≡ number → held.run.load ≡ None →
+pub single-said : (name : List ℕ) (order : Order) (line : List ℕ) → Says line name order → IsSingle line
+single-said name order line says =
+    let apart = apart-to name order in
+    record { short = says.short; no_load = said-no_load (To name order) apart line says.reading; no_blank = said-no_blank (To name order) apart line says.reading }
+
+pub single-closes : (name line : List ℕ) → SaysClose line name → IsSingle line
+single-closes name line says =
+    let apart = apart-close name in
+    record { short = says.short; no_load = said-no_load (Close name) apart line says.reading; no_blank = said-no_blank (Close name) apart line says.reading }
+
+module _ (cut : CutLines) (line : List ℕ) (is_single : IsSingle line) (out : cut.«open» ≡ None) where
+  cut-is : with_line cut line ≡ record { count = suc cut.count; whole = cut.whole ++ next_single cut line ∷ []; «open» = None }
+  cut-is = cut-single cut (suc cut.count) line refl out is_single.short is_single.no_load is_single.no_blank
+
+  pub goes-on : {A : Type 0} (r : Result A Refusal) (held : Held) (told : TranscriptState) (number : ℕ) → number ≡ suc cut.count → held.number ≡ number → held.run.load ≡ None →
       Tells false held.run (cut.whole ++ single (record { number = number; text = line }) ∷ []) (with_answer told (answered_by r told.session (single (record { number = number; text = line })))) →
       GoesOn r held cut told line
   goes-on r held told number is same no_load tells =

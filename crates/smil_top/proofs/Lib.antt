@@ -4,6 +4,7 @@ pub mod OrdersByName
 pub mod LineNumbers
 pub mod AuditLines
 pub mod Carried
+pub mod CopiedLines
 pub mod CutLines
 pub mod OrderCuts
 pub mod OrdersNeedNoMemory
@@ -34,3 +35,7 @@ pub mod ShortNames
 pub mod TranscriptAnswers
 pub mod TextsWritten
 pub mod AuditInputs
+pub mod LoadsGiven
+pub mod ClosesGiven
+pub mod HeldLoads
+pub mod LoadsCut

@@ -2,7 +2,7 @@
 use Rattle.std.proofs.Common.{◌≡◌, ◌⊎◌, ℕ, ◌+◌, ◌<◌, ◌≤◌, suc, min, length, Bool, true, false, List, [], ◌∷◌, ◌++◌, Option, Some, None, Result, Ok, Err, refl, ap, sym, subst, ◌∙◌, arith, inl, inr, Bor}
 use Rattle.std.proofs.lemmas.List.{append-nil, length-append}
 use Rattle.std.proofs.lemmas.List.Sums.{sum_by-append}
-use Rattle.std.specs.Prelude.{cond, option_map, ◌||◌, ◌==◌, if◌then◌else◌}
+use Rattle.std.specs.Prelude.{cond, option_map, ◌&&◌, ◌||◌, ◌==◌, if◌then◌else◌}
 use Rattle.smil_model.specs.declared.limits.TheConstants.{LINE_BYTES}
 use Rattle.smil_model.specs.declared.order.Refusal.{Refusal}
 use Rattle.smil_model.specs.declared.order.Refusal.TheVariants.{LongLine, Memory, UnfinishedLoad}
@@ -13,6 +13,7 @@ use Rattle.smil_outside.specs.Faults.{last_count}
 use Rattle.smil_model.specs.document.Words.{line_feed}
 use Rattle.smil_grammar.specs.Results.{◌>>=◌}
 use Rattle.smil_grammar.specs.Scripts.{line_of}
+use Rattle.smil_script.specs.Copies.{IsForCopy, line_copies}
 use Rattle.smil_top.specs.declared.answer.Answer.{Answer as AnswerText}
 use Rattle.smil_top.specs.declared.counts.Counts.{Counts}
 use Rattle.smil_top.specs.declared.fault.Fault.{Fault}
@@ -146,14 +147,14 @@ answer-single false session number line short =
     ap (λ b. at_line number ((if b then line_of line else Err LongLine) >>= said_within limits session number)) (is_short-true line short)
 
 pub single-made : (checks : Bool) (r : Result (Unit {0}) Refusal) (text : AnswerText) (so_far : KeptSession) (session : Session) (number : ℕ) (line : List ℕ) → length line ≤ LINE_BYTES →
-    Makes r text so_far session (line_by checks session number line) →
+    IsForCopy (line_copies line) r → Makes r text so_far session (line_by checks session number line) →
     MakesAnswer (at_line number r) text so_far session (answering checks) (single (record { number = number; text = line }))
-single-made checks (Ok done) text so_far session number line short made =
+single-made checks (Ok done) text so_far session number line short copied made =
     (made.0, made.1, answer-single checks session number line short ∙ ap (at_line number) made.2)
-single-made checks (Err refusal) text so_far session number line short made = (
+single-made checks (Err refusal) text so_far session number line short copied made = (
   made.0,
   elim made.1 [
-    | inl memory ↦ inr (is_short-true line short, ap (λ r. at_line number (Err r)) memory)
+    | inl memory ↦ inr (ap (λ b. b && line_copies line) (is_short-true line short) ∙ copied memory, ap (λ r. at_line number (Err r)) memory)
     | inr is ↦ inl (sym (answer-single checks session number line short ∙ ap (at_line number) is))
   ],
 )
@@ -182,7 +183,7 @@ abbrev as_answer : Result GivenDoc Fault → Answer
 as_answer (Err fault) = Err fault
 as_answer (Ok given) = Err (record { line = 0; refusal = Memory })
 
-answer-load : (checks : Bool) (session : Session) (lines : LoadLines) (end_line : ℕ) (given : Result LoadedDocument Fault) → given_within limits session.wanted lines end_line ≡ given →
+pub answer-load : (checks : Bool) (session : Session) (lines : LoadLines) (end_line : ℕ) (given : Result LoadedDocument Fault) → given_within limits session.wanted lines end_line ≡ given →
     answering checks session (load_order lines (Some end_line)) ≡ (given >>= λ (g : LoadedDocument). at_line lines.head.number (load_by checks session lines.head.number g))
 answer-load true session lines end_line given is = ap (λ r. r >>= λ (g : LoadedDocument). at_line lines.head.number (checked session lines.head.number g)) is
 answer-load false session lines end_line given is = ap (λ r. r >>= λ (g : LoadedDocument). at_line lines.head.number (loaded_within limits session lines.head.number g)) is

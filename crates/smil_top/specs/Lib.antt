@@ -14,3 +14,4 @@ pub mod Evaluations
 pub mod AuditInputs
 pub mod Held
 pub mod Recorded
+pub mod GivenLoads

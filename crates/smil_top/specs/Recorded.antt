@@ -1,11 +1,11 @@
 -- An order that a host gives to a session by a call, and what it changes as records.
-use Rattle.std.specs.Prelude.{◌≡◌, ℕ, suc, ℤ, pos, ◌≤◌, length, List, [], Option, Some, Result, Ok, Err, IsSome, slice_get}
+use Rattle.std.specs.Prelude.{◌≡◌, ℕ, suc, ℤ, pos, ◌≤◌, length, List, [], Option, None, Some, Result, Ok, Err, IsSome, slice_get}
 use Rattle.smil_model.specs.declared.limits.TheConstants.{LINE_BYTES}
 use Rattle.smil_model.specs.declared.order.Order.{Order}
 use Rattle.smil_model.specs.declared.order.Refusal.{Refusal}
 use Rattle.smil_model.specs.shown.Answers.{IsRefusedBy}
 use Rattle.smil_model.specs.shown.Orders.{Presentation, outcome}
-use Rattle.smil_grammar.specs.declared.read.Read.TheVariants.{To}
+use Rattle.smil_grammar.specs.declared.read.Read.TheVariants.{Close, To}
 use Rattle.smil_grammar.specs.Formats.{formats}
 use Rattle.smil_grammar.specs.Results.{◌>>=◌}
 use Rattle.smil_grammar.specs.Scripts.{line_of}
@@ -18,7 +18,7 @@ use Rattle.smil_top.specs.declared.held.CallRefusal.{CallRefusal}
 use Rattle.smil_top.specs.declared.held.CallRefusal.TheVariants.{OpenLoad, Refused, TooManyCalls}
 use Rattle.smil_top.specs.declared.held.Held.{Held}
 use Rattle.smil_top.specs.declared.session.Session.{Session as SessionSoFar}
-use Rattle.smil_top.specs.Answers.{Answer, answer_of as order_answer, found_presentation}
+use Rattle.smil_top.specs.Answers.{AcceptedOrder, Answer, answer_of as order_answer, found_presentation}
 use Rattle.smil_top.specs.Cut.{CutLines, OrderLines, first_line, single, with_line}
 use Rattle.smil_top.specs.Held.{IsHeld, last_number}
 use Rattle.smil_top.specs.Houses.{Keeps}
@@ -29,6 +29,11 @@ use Rattle.smil_top.specs.Transcript.{TranscriptState, with_answer}
 pub record Says (line name : List ℕ) (order : Order) : Type 0 where
   pub short : length line ≤ LINE_BYTES
   pub reading : line_of line ≡ Ok (To name order)
+
+-- a line that closes the presentation of this name
+pub record SaysClose (line name : List ℕ) : Type 0 where
+  pub short : length line ≤ LINE_BYTES
+  pub reading : line_of line ≡ Ok (Close name)
 
 -- whether it was carried out, whatever it gave
 abbrev pub done : {A E : Type 0} → Result A E → Result (Unit {0}) E
@@ -68,6 +73,13 @@ Records (Ok now) changes so_far session name order =
 Records (Err refusal) changes so_far session name order =
     IsRefusedIn refusal changes so_far session name order
 
+-- what is wanted was carried out; or it was refused, and all is kept as it was
+abbrev pub Closes : Result (Unit {0}) Refusal → SessionSoFar → Session
+    → Result AcceptedOrder Refusal → Type 0
+Closes (Ok done) so_far session wanted =
+    (accepted : AcceptedOrder) × (wanted ≡ Ok accepted) × Keeps so_far accepted.session
+Closes (Err refusal) so_far session wanted = Keeps so_far session × (wanted ≡ Err refusal)
+
 -- what is held, however it came about: these presentations, and these preferences
 abbrev pub HasPresentations : Held → Session → Type 0
 HasPresentations held session = Keeps held.run.session session
@@ -85,6 +97,16 @@ CarriesOut (Err (Refused refusal)) before after session name order =
 CarriesOut (Err OpenLoad) before after session name order = after ≡ before
 CarriesOut (Err TooManyCalls) before after session name order = after ≡ before
 
+-- what a close that was given by a call made of the presentations; nothing is recorded
+abbrev pub ClosesIn : Result (Unit {0}) CallRefusal → Held → Held → Session
+    → Result AcceptedOrder Refusal → Type 0
+ClosesIn (Ok done) before after session wanted =
+    (after.changes ≡ []) × Closes (Ok tt) after.run.session session wanted
+ClosesIn (Err (Refused refusal)) before after session wanted =
+    (after.changes ≡ []) × Closes (Err refusal) after.run.session session wanted
+ClosesIn (Err OpenLoad) before after session wanted = after ≡ before
+ClosesIn (Err TooManyCalls) before after session wanted = after ≡ before
+
 -- ---- by the lines
 
 -- a line that says such an order, behind these lines
@@ -92,13 +114,14 @@ abbrev pub next_single : CutLines → List ℕ → OrderLines
 next_single cut line = single (record { number = suc cut.count; text = line })
 
 -- the answer to the order: that which is due, or this refusal at its first line
-abbrev pub answered_by : Result ℤ Refusal → Session → OrderLines → Answer
-answered_by (Ok now) session order = order_answer session order
+abbrev pub answered_by : {A : Type 0} → Result A Refusal → Session → OrderLines → Answer
+answered_by (Ok given) session order = order_answer session order
 answered_by (Err refusal) session order =
     Err (record { line = first_line order; refusal = refusal })
 
 -- the session goes on as if it had been given this line
-abbrev pub GoesOn : Result ℤ Refusal → Held → CutLines → TranscriptState → List ℕ → Type 0
+abbrev pub GoesOn :
+    {A : Type 0} → Result A Refusal → Held → CutLines → TranscriptState → List ℕ → Type 0
 GoesOn answered after cut told line =
     IsHeld after (with_line cut line)
     (with_answer told (answered_by answered told.session (next_single cut line)))
@@ -106,17 +129,27 @@ GoesOn answered after cut told line =
 -- an order that was given by a call is one that was given by such a line: it was carried out, or
 -- refused; or nothing was taken in, since a load is open, or since it was one too many
 abbrev pub IsLikeLine :
-    Result ℤ CallRefusal → Held → Held → CutLines → TranscriptState → List ℕ → Type 0
-IsLikeLine (Ok now) before after cut told line = GoesOn (Ok now) after cut told line
-IsLikeLine (Err (Refused refusal)) before after cut told line =
-    GoesOn (Err refusal) after cut told line
+    {A : Type 0} → Result A CallRefusal → Held → Held → CutLines → TranscriptState → List ℕ
+    → Type 0
+IsLikeLine {A} (Ok given) before after cut told line = GoesOn {A = A} (Ok given) after cut told line
+IsLikeLine {A} (Err (Refused refusal)) before after cut told line =
+    GoesOn {A = A} (Err refusal) after cut told line
 IsLikeLine (Err OpenLoad) before after cut told line = (after ≡ before) × IsSome cut.«open»
 IsLikeLine (Err TooManyCalls) before after cut told line =
     (after ≡ before) × (last_number ≤ cut.count)
 
 -- where an order was carried out or refused
-abbrev pub WhereTaken : Result ℤ CallRefusal → Type 0 → Type 0
-WhereTaken (Ok now) fact = fact
+abbrev pub WhereTaken : {A : Type 0} → Result A CallRefusal → Type 0 → Type 0
+WhereTaken (Ok given) fact = fact
 WhereTaken (Err (Refused refusal)) fact = fact
 WhereTaken (Err OpenLoad) fact = Unit {0}
 WhereTaken (Err TooManyCalls) fact = Unit {0}
+
+-- where its fault stands: at its line where it was refused, nowhere where it was carried out;
+-- it stays where nothing was taken in
+abbrev pub StandsAt : {A : Type 0} → Result A CallRefusal → Held → Held → Type 0
+StandsAt (Ok given) before after = after.fault ≡ None
+StandsAt (Err (Refused refusal)) before after =
+    after.fault ≡ Some (record { line = suc before.number; refusal = refusal })
+StandsAt (Err OpenLoad) before after = after.fault ≡ before.fault
+StandsAt (Err TooManyCalls) before after = after.fault ≡ before.fault

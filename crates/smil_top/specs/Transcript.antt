@@ -1,9 +1,10 @@
 -- The transcript of a session: the answers to its orders, one after another.
-use Rattle.std.specs.Prelude.{◌≡◌, ◌⊎◌, ℕ, suc, Bool, true, false, ◌||◌, List, [], ◌∷◌, ◌++◌, fold, is_some, Ok, Err, if◌then◌else◌}
+use Rattle.std.specs.Prelude.{◌≡◌, ◌⊎◌, ℕ, suc, Bool, true, false, ◌&&◌, ◌||◌, List, [], ◌∷◌, ◌++◌, fold, is_some, Ok, Err, if◌then◌else◌}
 use Rattle.smil_model.specs.declared.order.Refusal.{Refusal}
 use Rattle.smil_model.specs.declared.order.Refusal.TheVariants.{Memory}
 use Rattle.smil_model.specs.document.Limits.{Limits}
 use Rattle.smil_model.specs.shown.Lines.{refusal_line}
+use Rattle.smil_script.specs.Copies.{line_copies}
 use Rattle.smil_top.specs.Cut.{OrderLines, single, load, first_line, is_short}
 use Rattle.smil_top.specs.Session.{Session, empty_session}
 use Rattle.smil_top.specs.Answers.{Answer, at_line, answer_within, answer_of, check_of}
@@ -12,9 +13,10 @@ use Rattle.smil_top.specs.Answers.{Answer, at_line, answer_within, answer_of, ch
 abbrev pub Answering : Type 0
 Answering = Session → OrderLines → Answer
 
--- an order for which memory is taken: a line that is too long and a load that doesn't end take none
+-- an order for which memory is taken: a line that is too long, one that is no order and names no
+-- element, and a load that doesn't end take none
 abbrev pub takes_memory : OrderLines → Bool
-takes_memory (single line) = is_short line.text
+takes_memory (single line) = is_short line.text && line_copies line.text
 takes_memory (load lines ended) = is_some ended
 
 -- an order is answered so, or refused since memory ran out that is taken for it

@@ -7,14 +7,14 @@ use smil_model::Refusal;
 
 /// The refusal of an order, and the number of the line where its fault stands.
 #[derive(Clone, Copy, Drop)]
-pub(crate) struct Fault {
+pub struct Fault {
     pub line: u32,
     pub refusal: Refusal,
 }
 
 impl Fault {
     /// A refusal that stands at this line.
-    pub fn at(line: u32, answered: Result<(), Refusal>) -> Result<(), Fault>
+    pub(crate) fn at(line: u32, answered: Result<(), Refusal>) -> Result<(), Fault>
         ensures { result ≡ at_line line answered }
     {
         match answered {

@@ -105,6 +105,7 @@ impl LastLine {
     }
 
     /// The line of a refused order, whose fault stands at the line with this number.
+    #[cold]
     pub fn refused(line: u32, refusal: &Refusal) -> LastLine
         ensures { result ≡ refusal_line line refusal.now }
     {

@@ -7,6 +7,7 @@ ghost use Rattle.smil_top.specs.Laws.{IsOfOneName, OthersStay, PresentationsStay
 ghost use Rattle.smil_top.specs.Laws.{PreferringIsOfNone, HeldStay, PreferencesStay};
 ghost use Rattle.smil_top.specs.Laws.{NamesAreIsolated, NumbersAreAside, OrdersAreCutAgain};
 ghost use Rattle.smil_top.specs.Laws.{InputsAreIsolated, InputsAreCut, TranscriptsHaveFronts};
+ghost use Rattle.smil_top.specs.GivenLoads.{GivenLoadsAreLines};
 ghost use Rattle.smil_top.specs.Held.{HeldIsServed, ServedIsHeld};
 ghost use Rattle.smil_top.specs.Laws.{TranscriptsAreCut, AllTranscriptsAreCut, TranscriptsMigrate};
 
@@ -95,4 +96,9 @@ pub fn transcripts_migrate()
 pub fn held_sessions_are_served()
     ensures whole { HeldIsServed }
     ensures same { ServedIsHeld }
+{}
+
+/// A load that is given by a call is what its lines are cut into.
+pub fn given_loads_are_lines()
+    ensures { GivenLoadsAreLines }
 {}

@@ -13,6 +13,7 @@ pub mod laws;
 mod load;
 mod loaded;
 mod loading;
+mod loads;
 mod nowhere;
 mod reading;
 mod recorded;
@@ -22,6 +23,7 @@ mod status;
 mod top;
 
 pub use call::Call;
+pub use fault::Fault;
 pub use held::{CallRefusal, Held, TooManyLines};
 pub use status::Status;
 pub use top::serve;

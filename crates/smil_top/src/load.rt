@@ -29,6 +29,7 @@ pub(crate) struct Load {
 
 impl Load {
     /// A load that this line opens, whose lines are chosen by these preferences.
+    #[inline(never)]
     pub fn open(alloc: Global, line: u32, head: &[u8], preferences: &Preferences) -> Load
         requires { length head.now ≤ LINE_BYTES }
         ensures { IsRead result preferences.now (record

@@ -6,7 +6,8 @@ ghost use Rattle.smil_report.specs.Tellings.{is_telling};
 ghost use Rattle.smil_top.specs.Cut.{OrderLines, single};
 ghost use Rattle.smil_top.specs.Evaluations.{Bound, ordered_number};
 ghost use Rattle.smil_top.specs.Houses.{Keeps};
-ghost use Rattle.smil_top.specs.Recorded.{Records, Says, answered_by, done};
+ghost use Rattle.smil_top.specs.Answers.{close_answer};
+ghost use Rattle.smil_top.specs.Recorded.{Closes, Records, Says, SaysClose, answered_by, done};
 ghost use Rattle.smil_top.specs.Running.{EvaluatesOn, IsCounted, Tells};
 ghost use Rattle.smil_top.specs.Session.{Session as Presentations};
 ghost use Rattle.smil_top.specs.Transcript.{TranscriptState, with_answer};
@@ -20,7 +21,7 @@ use smil_report::Changes;
 use std::sync::ledger::Ledger;
 
 // As many lines as are no longer counted.
-const UNCOUNTED: u64 = u64::MAX;
+pub const UNCOUNTED: u64 = u64::MAX;
 
 /// An order, the name of the presentation that it is for, and the number of the line that it
 /// stands for.
@@ -55,6 +56,16 @@ impl Session {
             (steps.new - steps.old) }
     {
         self.house.record(name, order, changes, steps)
+    }
+
+    /// Closes the presentation of this name, or gives why it is refused, and then the session is as
+    /// before.
+    pub fn unload(&mut self, name: &[u8]) -> Result<(), Refusal>
+        ensures closed { (session : Presentations) (number : ℕ) → Keeps self.old session
+            → Closes result self.new session (close_answer session number name.now) }
+        ensures checks { self.new.checks ≡ self.old.checks }
+    {
+        self.house.close(name)
     }
 }
 
@@ -92,6 +103,28 @@ impl Run {
         let answered = Fault::at(given.number, done(&changed));
         self.counts.count(&answered, UNCOUNTED);
         changed
+    }
+
+    /// Closes the presentation of this name as a line of this number would that says it, but leaves
+    /// the answer as it is.
+    pub fn unload(&mut self, number: u32, name: &[u8]) -> Result<(), Refusal>
+        ensures closed { (session : Presentations) (number : ℕ) → Keeps self.old.session session
+            → Closes result self.new.session session (close_answer session number name.now) }
+        ensures tells { (whole : List OrderLines) (told : TranscriptState) (line : List ℕ)
+            → SaysClose line name.now → Tells false self.old whole told
+            → Tells false self.new (whole ++ single (record { number = number; text = line }) ∷ [])
+            (with_answer told (answered_by result told.session
+            (single (record { number = number; text = line })))) }
+        ensures load { self.new.load ≡ self.old.load }
+        ensures answer { self.new.answer ≡ self.old.answer }
+        ensures evaluated { (whole : List OrderLines) (told : TranscriptState) (line : List ℕ)
+            (steps : ℕ) → SaysClose line name.now → Tells false self.old whole told
+            → EvaluatesOn self.old.counts self.new.counts whole
+            (whole ++ single (record { number = number; text = line }) ∷ []) steps steps }
+    {
+        let closed = self.session.unload(name);
+        self.counts.count(&Fault::at(number, closed), UNCOUNTED);
+        closed
     }
 }
 

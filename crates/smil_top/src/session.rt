@@ -5,6 +5,7 @@ ghost use Rattle.smil_model.specs.declared.limits.TheConstants.{NAME_BYTES};
 ghost use Rattle.smil_model.specs.document.Limits.{limits};
 ghost use Rattle.smil_model.specs.document.Valid.{IsValid};
 ghost use Rattle.smil_model.specs.shown.Answers.{IsGiven};
+ghost use Rattle.smil_script.specs.Copies.{IsForCopy, line_copies};
 ghost use Rattle.smil_script.specs.Gives.{HoldsGiven};
 ghost use Rattle.smil_top.specs.Session.{Session as Presentations};
 ghost use Rattle.smil_switch.specs.Preferences.{at_first};
@@ -79,6 +80,7 @@ impl Session {
         ensures answer { (session : Presentations) → Keeps self.old session
             → Makes result answer.new self.new session
             (line_by self.old.checks session number line.now) }
+        ensures copied { IsForCopy (line_copies line.now) result }
         ensures checks { self.new.checks ≡ self.old.checks }
         ensures counted { steps.old ≤ steps.new }
         ensures evaluated { (session : Presentations) → Keeps self.old session

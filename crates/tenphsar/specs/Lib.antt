@@ -4,3 +4,4 @@ pub mod Edits
 pub mod Orders
 pub mod Records
 pub mod Screen
+pub mod Loads

@@ -67,12 +67,16 @@ GivesWord (Err no.BadArgument) text = is_attribute_word text ≡ false
 
 -- ---- what its call answers
 
--- 0, or the number of the refusal; or a number below 0 where nothing was taken in
-abbrev pub code_given : Result ℤ CallRefusal → ℤ
-code_given (Ok now) = pos 0
-code_given (Err (Refused refusal)) = pos (refusal_number refusal)
-code_given (Err TooManyCalls) = negsuc 1
-code_given (Err OpenLoad) = negsuc 3
+-- the number of the refusal, or a number below 0 where nothing was taken in
+abbrev pub refused_code : CallRefusal → ℤ
+refused_code (Refused refusal) = pos (refusal_number refusal)
+refused_code TooManyCalls = negsuc 1
+refused_code OpenLoad = negsuc 3
+
+-- 0, or why not
+abbrev pub code_given : {A : Type 0} → Result A CallRefusal → ℤ
+code_given (Ok given) = pos 0
+code_given (Err refusal) = refused_code refusal
 
 -- the order was given to the presentation of this name
 pub record IsAnswered (code : ℤ) (name : List ℕ) (given : Order) (before after : Held)

@@ -8,7 +8,7 @@ ghost use Rattle.smil_model.specs.declared.order.Order.{Order as AnyOrder};
 ghost use Rattle.smil_model.specs.shown.Answers.{IsGiven};
 ghost use Rattle.smil_report.specs.Tellings.{is_telling};
 ghost use Rattle.tenphsar.specs.Calls.{Copies, TakesIn, TellsMoment, TellsNext, code_of};
-ghost use Rattle.tenphsar.specs.Orders.{Calls, IsAnswered, IsFit, MakesOrder, code_given};
+ghost use Rattle.tenphsar.specs.Orders.{Calls, IsAnswered, IsFit, MakesOrder, code_given, refused_code};
 ghost use Rattle.tenphsar.specs.Records.{record_of};
 
 use super::orders::NoOrder;
@@ -33,11 +33,11 @@ const TOO_MANY_LINES: i32 = -2;
 
 // Why an order that is given by a call isn't taken in: no line could say it, or a load is open. A
 // refused order answers the number of its refusal.
-const BAD_ARGUMENT: i32 = -3;
+pub const BAD_ARGUMENT: i32 = -3;
 
 const OPEN_LOAD: i32 = -4;
 
-const OUT_OF_MEMORY: i32 = 24;
+pub const OUT_OF_MEMORY: i32 = 24;
 
 // The moment where there is none.
 const NO_MOMENT: i64 = -1;
@@ -161,9 +161,18 @@ fn code_of_order(answered: &Result<i64, CallRefusal>) -> i32
 {
     match answered {
         Ok(_) => DONE,
-        Err(CallRefusal::Refused(refusal)) => i32::from(refusal.number()),
-        Err(CallRefusal::TooManyCalls) => TOO_MANY_LINES,
-        Err(CallRefusal::OpenLoad) => OPEN_LOAD,
+        Err(refusal) => code_of_refusal(*refusal),
+    }
+}
+
+/// The code of a call that was refused.
+pub fn code_of_refusal(refusal: CallRefusal) -> i32
+    ensures { result ≡ refused_code refusal }
+{
+    match refusal {
+        CallRefusal::Refused(refusal) => i32::from(refusal.number()),
+        CallRefusal::TooManyCalls => TOO_MANY_LINES,
+        CallRefusal::OpenLoad => OPEN_LOAD,
     }
 }
 

@@ -11,20 +11,25 @@ ghost use Rattle.smil_top.specs.Held.{answer_of};
 ghost use Rattle.smil_top.specs.declared.held.Held.{Held as AnyHeld};
 ghost use Rattle.tenphsar.specs.Calls.{Copies, Opens, TakesIn, TellsMoment, TellsNext};
 ghost use Rattle.tenphsar.specs.Edits.{insert_of, remove_of, set_of, unset_of};
+ghost use Rattle.tenphsar.specs.Loads.{Loads, Unloads, fault_record, head_of};
 ghost use Rattle.tenphsar.specs.Orders.{Calls, advance_of, event_by, key_of, media_of, seek_of};
 ghost use Rattle.tenphsar.specs.Records.{record_of};
 ghost use Rattle.tenphsar.specs.Screen.{Finds, TellsScreen};
 
 mod calls;
 mod edits;
+mod faults;
 mod handle;
+mod loads;
 mod loose;
 mod orders;
 mod records;
 mod screen;
 
 use calls::{DONE, NO_MEMORY};
+use faults::FaultRecord;
 use handle::Handle;
+use loads::LoadTexts;
 use records::ChangeRecord;
 use screen::ScreenRecord;
 use std::alloc::Global;
@@ -126,6 +131,63 @@ pub extern "C" fn tenphsar_next(alloc: Global, session: &mut Handle, name: &[u8]
     let next = calls::next_due(&held, name);
     session.put(held);
     next
+}
+
+/// Loads a presentation under this name, from an outline, as the lines `load NAME`, those between
+/// the line feeds of the outline, and `%%` do; `start` is empty, or the instant of moment 0, and the
+/// first line is `load NAME at START`. It answers as an advance does; -3 where that line is longer
+/// than a line may be. A line `%%` in the outline doesn't end it, but is refused.
+#[unsafe(no_mangle)]
+pub extern "C" fn tenphsar_load(
+    alloc: Global,
+    session: &mut Handle,
+    name: &[u8],
+    start: &[u8],
+    outline: &[u8],
+) -> i32
+    requires open { IsSome session.old.value }
+    ensures open { IsSome session.new.value }
+    ensures loads { (held : AnyHeld) → session.old.value ≡ Some held
+        → IfSome session.new.value
+        (Loads result (head_of name.now start.now) outline.now held) }
+{
+    let mut held = session.take(alloc);
+    let given = LoadTexts {
+        name,
+        start,
+        outline,
+    };
+    let code = loads::load::<Brand>(alloc, &mut held, &given, Blank::new(1));
+    session.put(held);
+    code
+}
+
+/// Closes the presentation of this name, as the line `close NAME` does. It answers as an advance
+/// does, and leaves no records.
+#[unsafe(no_mangle)]
+pub extern "C" fn tenphsar_unload(alloc: Global, session: &mut Handle, name: &[u8]) -> i32
+    requires open { IsSome session.old.value }
+    ensures open { IsSome session.new.value }
+    ensures unloads { (held : AnyHeld) → session.old.value ≡ Some held
+        → IfSome session.new.value (Unloads result name.now held) }
+{
+    let mut held = session.take(alloc);
+    let code = loads::unload(&mut held, name);
+    session.put(held);
+    code
+}
+
+/// Writes to `out` where the last call was refused: the number of the line that it stands for, or
+/// of the line of its outline, and the column from 1; 0 where there is none.
+#[unsafe(no_mangle)]
+pub extern "C" fn tenphsar_fault(alloc: Global, session: &mut Handle, out: &mut FaultRecord)
+    requires open { IsSome session.old.value }
+    ensures same { session.new.value ≡ session.old.value }
+    ensures fault { IfSome session.old.value (λ held. out.new ≡ fault_record held.fault) }
+{
+    let held = session.take(alloc);
+    *out = faults::of(&held);
+    session.put(held);
 }
 
 /// Moves the presentation of this name on by a length, in milliseconds from 0 to 10^12. It answers

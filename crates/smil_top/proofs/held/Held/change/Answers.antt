@@ -1,6 +1,6 @@
-use Rattle.std.proofs.Common.{◌≡◌, ℕ, ◌+◌, false, None, Ok, Err, refl, ◌∙◌, arith, rules}
+use Rattle.std.proofs.Common.{◌≡◌, ℕ, ℤ, ◌+◌, false, None, Some, Ok, Err, refl, ◌∙◌, arith, rules}
 use Rattle.std.specs.Prelude.{is_some}
-use Rattle.smil_top.proofs.GoneOn.{evaluates-on, goes-on, has-none, is-none}
+use Rattle.smil_top.proofs.GoneOn.{evaluates-on, goes-on, has-none, is-none, single-said}
 use Rattle.smil_top.proofs.held.Held.change.Goals as goal
 
 pub returns-in-Ok-clause-like : goal.returns-in-Ok-clause-like
@@ -9,7 +9,7 @@ returns-in-Ok-clause-like g c cut told line is says =
     let none : is_some held.run.load ≡ false = first_of (cc, search rules) in
     let number : ℕ = held.number + 1 in
     let out : cut.«open» ≡ None = has-none held.run.load told.session.wanted cut.«open» is.running.load none in
-    goes-on c.args.name.now c.args.order.now cut line says out (Ok c.in-Ok.now) (record { run = c.change.new.self; number = number; changes = c.change.new.changes }) told number
+    goes-on cut line (single-said c.args.name.now c.args.order.now line says) out {A = ℤ} (Ok c.in-Ok.now) (record { run = c.change.new.self; number = number; changes = c.change.new.changes; fault = None }) told number
     (omega (arith, is.number)) refl (c.change.ensures.load ∙ is-none held.run.load none) (c.in-Ok.ensures.tells cut.whole told line says is.running.tells)
 
 pub returns-in-Err-clause-like : goal.returns-in-Err-clause-like
@@ -18,7 +18,7 @@ returns-in-Err-clause-like g c cut told line is says =
     let none : is_some held.run.load ≡ false = first_of (cc, search rules) in
     let number : ℕ = held.number + 1 in
     let out : cut.«open» ≡ None = has-none held.run.load told.session.wanted cut.«open» is.running.load none in
-    goes-on c.args.name.now c.args.order.now cut line says out (Err c.in-Err.refusal) (record { run = c.change.new.self; number = number; changes = c.change.new.changes }) told number
+    goes-on cut line (single-said c.args.name.now c.args.order.now line says) out {A = ℤ} (Err c.in-Err.refusal) (record { run = c.change.new.self; number = number; changes = c.change.new.changes; fault = Some (record { line = number; refusal = c.in-Err.refusal }) }) told number
     (omega (arith, is.number)) refl (c.change.ensures.load ∙ is-none held.run.load none) (c.in-Err.ensures.tells cut.whole told line says is.running.tells)
 
 pub returns-in-Ok-clause-evaluated : goal.returns-in-Ok-clause-evaluated
@@ -26,7 +26,7 @@ returns-in-Ok-clause-evaluated g c cut told line is says =
     let held = c.args.self.now in
     let none : is_some held.run.load ≡ false = first_of (cc, search rules) in
     let out : cut.«open» ≡ None = has-none held.run.load told.session.wanted cut.«open» is.running.load none in
-    evaluates-on c.args.name.now c.args.order.now cut line says out held.run.counts c.change.new.self.counts (held.number + 1) c.args.steps.now c.change.new.steps
+    evaluates-on cut line (single-said c.args.name.now c.args.order.now line says) out held.run.counts c.change.new.self.counts (held.number + 1) c.args.steps.now c.change.new.steps
     (omega (arith, is.number)) (c.in-Ok.ensures.evaluated cut.whole told line says is.running.tells)
 
 pub returns-in-Err-clause-evaluated : goal.returns-in-Err-clause-evaluated
@@ -34,5 +34,5 @@ returns-in-Err-clause-evaluated g c cut told line is says =
     let held = c.args.self.now in
     let none : is_some held.run.load ≡ false = first_of (cc, search rules) in
     let out : cut.«open» ≡ None = has-none held.run.load told.session.wanted cut.«open» is.running.load none in
-    evaluates-on c.args.name.now c.args.order.now cut line says out held.run.counts c.change.new.self.counts (held.number + 1) c.args.steps.now c.change.new.steps
+    evaluates-on cut line (single-said c.args.name.now c.args.order.now line says) out held.run.counts c.change.new.self.counts (held.number + 1) c.args.steps.now c.change.new.steps
     (omega (arith, is.number)) (c.in-Err.ensures.evaluated cut.whole told line says is.running.tells)

@@ -17,7 +17,7 @@ made g c checks whole told tells =
     let r = c.answer_line-answered.result in
     let text = c.answer_line-answered.new.answer in
     let so_far = c.answer_line-answered.new.self in
-    single-made checks r text so_far told.session c.args.number c.args.text.now c.requires.short
+    single-made checks r text so_far told.session c.args.number c.args.text.now c.requires.short c.answer_line-answered.ensures.copied
     (subst (λ (k : Bool). Makes r text so_far told.session (line_by k told.session c.args.number c.args.text.now)) tells.checks_is (c.answer_line-answered.ensures.answer told.session tells.keeps))
 
 pub returns-clause-answers : goal.returns-clause-answers

@@ -1,9 +1,11 @@
 use Rattle.std.proofs.Common.{◌-◌, Err, sym, subst}
 use Rattle.std.proofs.lemmas.Result.{err_from_is_err_and}
+use Rattle.smil_script.specs.Copies.{IsForCopy, line_copies}
 use Rattle.smil_top.specs.Evaluations.{line_number}
 use Rattle.smil_top.specs.Running.{Makes, line_by}
 use Rattle.smil_top.proofs.EvaluationCounts.{counted-line, counted-refused}
 use Rattle.smil_top.proofs.AnswersMade.{unmade-line}
+use Rattle.smil_top.proofs.CopiedLines.{copied-any, copied-read}
 use Rattle.smil_top.proofs.ShortNames.{read-short}
 use Rattle.smil_top.proofs.session.Session.answer_line.Goals as goal
 
@@ -27,3 +29,6 @@ pub returns-in_err-read-clause-evaluated : goal.returns-in_err-read-clause-evalu
 returns-in_err-read-clause-evaluated g c session keeps runs =
     let p = err_from_is_err_and c.from_residual.result c.from_residual.ensures.1 in
     rw p.1 (counted-refused p.0 (λ bound. line_number bound session c.args.line.now) c.args.steps.now)
+
+pub returns-clause-copied : goal.returns-clause-copied
+returns-clause-copied g c = copied-any (line_copies c.args.line.now) c.answer_read.result (copied-read c.args.line.now c.in_ok-read.read c.in_ok-read.ensures.reading)
