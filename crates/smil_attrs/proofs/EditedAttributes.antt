@@ -1,6 +1,6 @@
 -- Attributes that a node can have stay so under edits.
-use Rattle.std.proofs.Common.{◌≡◌, ℕ, Bool, false, List, Option, Some, Result, Ok, Err, refl, subst}
-use Rattle.std.specs.Prelude.{IfOk, IfSome, IsTrue}
+use Rattle.std.proofs.Common.{◌≡◌, ℕ, Bool, false, List, Option, Some, None, Result, Ok, Err, option_map, refl, sym, subst, inl, inr}
+use Rattle.std.specs.Prelude.{◌⊎◌, IfOk, IfSome, IsTrue}
 use Rattle.std.proofs.lemmas.Bool.{false≢true}
 use Rattle.std.proofs.lemmas.Option.{IfSome_then}
 use Rattle.smil_model.specs.declared.document.Kind.{Kind}
@@ -9,8 +9,12 @@ use Rattle.smil_model.specs.declared.document.Attr.TheVariants as attr
 use Rattle.smil_model.specs.declared.document.Attrs.{Attrs}
 use Rattle.smil_model.specs.declared.document.AttrName.{AttrName}
 use Rattle.smil_model.specs.declared.document.AttrName.TheVariants as name
+use Rattle.smil_model.specs.declared.texts.Texts.{Texts}
+use Rattle.smil_model.specs.declared.texts.TextName.{TextName}
 use Rattle.smil_model.specs.declared.document.Item.{Item}
+use Rattle.smil_model.specs.document.Texts.{text_at, with_text}
 use Rattle.smil_model.specs.document.Edits.{with_attr, without_attr}
+use Rattle.smil_model.proofs.TextTables.{changed_text}
 use Rattle.smil_grammar.specs.declared.fault.AttrFault.{AttrFault}
 use Rattle.smil_grammar.specs.declared.fault.ListFault.{ListFault}
 use Rattle.smil_grammar.specs.Attributes.{has}
@@ -24,6 +28,18 @@ use Rattle.smil_attrs.proofs.ReadParts.{listed}
 -- one that is there
 abbrev pub IsHad : Bool → Kind → AttrName → Option Attr → Type 0
 IsHad in_seq kind n o = IfSome o (λ given. IsTrue (has kind n) × IsAttr in_seq given)
+
+-- a text that is given, or is absent, beside the others
+text_kept : (in_seq : Bool) (kind : Kind) (texts : Texts) (m n : TextName) (given : Option (List ℕ)) → (m ≡ n → IsHad in_seq kind (name.Text n) (option_map (attr.Text n) given)) → IsHad in_seq kind (name.Text n) (option_map (attr.Text n) (text_at texts n))
+    → IsHad in_seq kind (name.Text n) (option_map (attr.Text n) (text_at (with_text texts m given) n))
+text_kept in_seq kind texts m n given h k = by (changed_text texts m n given)
+  where
+    IsOne : Option (List ℕ) → Type 0
+    IsOne o = IsHad in_seq kind (name.Text n) (option_map (attr.Text n) o)
+
+    by : ((m ≡ n) × (text_at (with_text texts m given) n ≡ given)) ⊎ (text_at (with_text texts m given) n ≡ text_at texts n) → IsOne (text_at (with_text texts m given) n)
+    by (inl e) = subst IsOne (sym e.1) (h e.0)
+    by (inr e) = subst IsOne (sym e) k
 
 with_kept : (in_seq : Bool) (kind : Kind) (attrs : Attrs) (given : Attr) (n : AttrName) → IsHad in_seq kind (name_of given) (Some given) → IsHad in_seq kind n (attr_at attrs n) → IsHad in_seq kind n (attr_at (with_attr attrs given) n)
 with_kept in_seq kind attrs (attr.Id x) name.Id h k = h
@@ -58,20 +74,8 @@ with_kept in_seq kind attrs (attr.Higher x) name.Higher h k = h
 with_kept in_seq kind attrs (attr.Higher x) _ h k = k
 with_kept in_seq kind attrs (attr.Lower x) name.Lower h k = h
 with_kept in_seq kind attrs (attr.Lower x) _ h k = k
-with_kept in_seq kind attrs (attr.Src x) name.Src h k = h
-with_kept in_seq kind attrs (attr.Src x) _ h k = k
-with_kept in_seq kind attrs (attr.Region x) name.Region h k = h
-with_kept in_seq kind attrs (attr.Region x) _ h k = k
-with_kept in_seq kind attrs (attr.Alt x) name.Alt h k = h
-with_kept in_seq kind attrs (attr.Alt x) _ h k = k
-with_kept in_seq kind attrs (attr.Title x) name.Title h k = h
-with_kept in_seq kind attrs (attr.Title x) _ h k = k
-with_kept in_seq kind attrs (attr.TargetElement x) name.TargetElement h k = h
-with_kept in_seq kind attrs (attr.TargetElement x) _ h k = k
-with_kept in_seq kind attrs (attr.AttributeName x) name.AttributeName h k = h
-with_kept in_seq kind attrs (attr.AttributeName x) _ h k = k
-with_kept in_seq kind attrs (attr.To x) name.To h k = h
-with_kept in_seq kind attrs (attr.To x) _ h k = k
+with_kept in_seq kind attrs (attr.Text m x) (name.Text n) h k = text_kept in_seq kind attrs.texts m n (Some x) (λ same. subst (λ (n : TextName). IsHad in_seq kind (name.Text n) (Some (attr.Text n x))) same h) k
+with_kept in_seq kind attrs (attr.Text m x) _ h k = k
 
 pub with_stays : (in_seq : Bool) (kind : Kind) (attrs : Attrs) (given : Attr) → IsAttrs in_seq kind attrs → IsTrue (has kind (name_of given)) → IsAttr in_seq given → IsAttrs in_seq kind (with_attr attrs given)
 with_stays in_seq kind attrs given h had is = λ n. with_kept in_seq kind attrs given n (had, is) (h n)
@@ -109,20 +113,8 @@ without_kept in_seq kind attrs name.Higher name.Higher k = tt
 without_kept in_seq kind attrs name.Higher _ k = k
 without_kept in_seq kind attrs name.Lower name.Lower k = tt
 without_kept in_seq kind attrs name.Lower _ k = k
-without_kept in_seq kind attrs name.Src name.Src k = tt
-without_kept in_seq kind attrs name.Src _ k = k
-without_kept in_seq kind attrs name.Region name.Region k = tt
-without_kept in_seq kind attrs name.Region _ k = k
-without_kept in_seq kind attrs name.Alt name.Alt k = tt
-without_kept in_seq kind attrs name.Alt _ k = k
-without_kept in_seq kind attrs name.Title name.Title k = tt
-without_kept in_seq kind attrs name.Title _ k = k
-without_kept in_seq kind attrs name.TargetElement name.TargetElement k = tt
-without_kept in_seq kind attrs name.TargetElement _ k = k
-without_kept in_seq kind attrs name.AttributeName name.AttributeName k = tt
-without_kept in_seq kind attrs name.AttributeName _ k = k
-without_kept in_seq kind attrs name.To name.To k = tt
-without_kept in_seq kind attrs name.To _ k = k
+without_kept in_seq kind attrs (name.Text m) (name.Text n) k = text_kept in_seq kind attrs.texts m n None (λ same. tt) k
+without_kept in_seq kind attrs (name.Text m) _ k = k
 
 pub without_stays : (in_seq : Bool) (kind : Kind) (attrs : Attrs) (gone : AttrName) → IsAttrs in_seq kind attrs → IsAttrs in_seq kind (without_attr attrs gone)
 without_stays in_seq kind attrs gone h = λ n. without_kept in_seq kind attrs gone n (h n)

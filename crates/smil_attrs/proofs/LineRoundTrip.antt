@@ -8,6 +8,8 @@ use Rattle.smil_model.specs.declared.document.Attr.TheVariants as attr
 use Rattle.smil_model.specs.declared.document.Attrs.{Attrs}
 use Rattle.smil_model.specs.declared.document.AttrName.{AttrName}
 use Rattle.smil_model.specs.declared.document.AttrName.TheVariants as name
+use Rattle.smil_model.specs.declared.texts.TextName.{TextName}
+use Rattle.smil_model.specs.declared.texts.TextName.TheVariants as text
 use Rattle.smil_model.specs.document.Edits.{with_attr, no_attrs}
 use Rattle.smil_model.specs.document.Values.{is_seq_parent}
 use Rattle.smil_model.specs.document.Valid.{may_stand}
@@ -111,13 +113,7 @@ plain_named in_seq name.Endsync text = any_value attr.Endsync (IsNamed name.Ends
 plain_named in_seq name.Peers text = any_value attr.Peers (IsNamed name.Peers) (λ x. refl) _
 plain_named in_seq name.Higher text = any_value attr.Higher (IsNamed name.Higher) (λ x. refl) _
 plain_named in_seq name.Lower text = any_value attr.Lower (IsNamed name.Lower) (λ x. refl) _
-plain_named in_seq name.Src text = any_value attr.Src (IsNamed name.Src) (λ x. refl) _
-plain_named in_seq name.Region text = any_value attr.Region (IsNamed name.Region) (λ x. refl) _
-plain_named in_seq name.Alt text = any_value attr.Alt (IsNamed name.Alt) (λ x. refl) _
-plain_named in_seq name.Title text = any_value attr.Title (IsNamed name.Title) (λ x. refl) _
-plain_named in_seq name.TargetElement text = any_value attr.TargetElement (IsNamed name.TargetElement) (λ x. refl) _
-plain_named in_seq name.AttributeName text = any_value attr.AttributeName (IsNamed name.AttributeName) (λ x. refl) _
-plain_named in_seq name.To text = any_value attr.To (IsNamed name.To) (λ x. refl) _
+plain_named in_seq (name.Text n) text = any_value (attr.Text n) (IsNamed (name.Text n)) (λ x. refl) _
 
 value_named : (in_seq : Bool) (n : AttrName) (text : List ℕ) → IfOk (value_of in_seq n text) (IsNamed n)
 value_named in_seq n text = all_read in_seq (IsNamed n) n text (λ e. plain_named in_seq n text)
@@ -159,8 +155,13 @@ attrs_had in_seq k before (w ∷ ws) h = one in_seq k before ws h (attr_of in_se
     one in_seq k before ws h (Err e) had others = tt
     one in_seq k before ws h (Ok given) had others = others (with_attr before given) (with_stays in_seq k before given h had.0 had.1)
 
+no_text : (in_seq : Bool) (k : Kind) (n : TextName) → IsHad in_seq k (name.Text n) (attr_at no_attrs (name.Text n))
+no_text in_seq k text.Src = tt
+no_text in_seq k _ = tt
+
 none : (in_seq : Bool) (k : Kind) (n : AttrName) → IsHad in_seq k n (attr_at no_attrs n)
 none in_seq k name.Id = tt
+none in_seq k (name.Text n) = no_text in_seq k n
 none in_seq k _ = tt
 
 -- a kind that the parent can have, with attributes of the kind

@@ -6,6 +6,8 @@ use Rattle.smil_model.specs.declared.document.Attr.TheVariants as attr
 use Rattle.smil_model.specs.declared.document.Attrs.{Attrs}
 use Rattle.smil_model.specs.declared.document.AttrName.{AttrName}
 use Rattle.smil_model.specs.declared.document.AttrName.TheVariants as name
+use Rattle.smil_model.specs.declared.texts.TextName.TheVariants as text
+use Rattle.smil_model.specs.document.Texts.{text_at, with_text}
 use Rattle.smil_model.specs.document.Edits.{with_attr}
 use Rattle.smil_grammar.specs.Attributes.{names}
 use Rattle.smil_model.specs.document.Edits.{no_attrs}
@@ -35,13 +37,7 @@ named attrs name.Endsync = made attr.Endsync name.Endsync (λ x. refl) attrs.end
 named attrs name.Peers = made attr.Peers name.Peers (λ x. refl) attrs.peers
 named attrs name.Higher = made attr.Higher name.Higher (λ x. refl) attrs.higher
 named attrs name.Lower = made attr.Lower name.Lower (λ x. refl) attrs.lower
-named attrs name.Src = made attr.Src name.Src (λ x. refl) attrs.src
-named attrs name.Region = made attr.Region name.Region (λ x. refl) attrs.region
-named attrs name.Alt = made attr.Alt name.Alt (λ x. refl) attrs.alt
-named attrs name.Title = made attr.Title name.Title (λ x. refl) attrs.title
-named attrs name.TargetElement = made attr.TargetElement name.TargetElement (λ x. refl) attrs.target_element
-named attrs name.AttributeName = made attr.AttributeName name.AttributeName (λ x. refl) attrs.attribute_name
-named attrs name.To = made attr.To name.To (λ x. refl) attrs.to
+named attrs (name.Text n) = made (attr.Text n) (name.Text n) (λ x. refl) (text_at attrs.texts n)
 
 -- attributes, and one more where it is there
 abbrev pub put : Attrs → Option Attr → Attrs
@@ -78,11 +74,11 @@ filled_all attrs =
     let e14 = put_next attr.Peers (λ before o. record before { peers = o }) attrs.peers (λ _ _. refl) e13 refl in
     let e15 = put_next attr.Higher (λ before o. record before { higher = o }) attrs.higher (λ _ _. refl) e14 refl in
     let e16 = put_next attr.Lower (λ before o. record before { lower = o }) attrs.lower (λ _ _. refl) e15 refl in
-    let e17 = put_next attr.Src (λ before o. record before { src = o }) attrs.src (λ _ _. refl) e16 refl in
-    let e18 = put_next attr.Region (λ before o. record before { region = o }) attrs.region (λ _ _. refl) e17 refl in
-    let e19 = put_next attr.Alt (λ before o. record before { alt = o }) attrs.alt (λ _ _. refl) e18 refl in
-    let e20 = put_next attr.Title (λ before o. record before { title = o }) attrs.title (λ _ _. refl) e19 refl in
-    let e21 = put_next attr.TargetElement (λ before o. record before { target_element = o }) attrs.target_element (λ _ _. refl) e20 refl in
-    let e22 = put_next attr.AttributeName (λ before o. record before { attribute_name = o }) attrs.attribute_name (λ _ _. refl) e21 refl in
-    let e23 = put_next attr.To (λ before o. record before { to = o }) attrs.to (λ _ _. refl) e22 refl in
+    let e17 = put_next (attr.Text text.Src) (λ before o. record before { texts = with_text before.texts text.Src o }) attrs.texts.src (λ _ _. refl) e16 refl in
+    let e18 = put_next (attr.Text text.Region) (λ before o. record before { texts = with_text before.texts text.Region o }) attrs.texts.region (λ _ _. refl) e17 refl in
+    let e19 = put_next (attr.Text text.Alt) (λ before o. record before { texts = with_text before.texts text.Alt o }) attrs.texts.alt (λ _ _. refl) e18 refl in
+    let e20 = put_next (attr.Text text.Title) (λ before o. record before { texts = with_text before.texts text.Title o }) attrs.texts.title (λ _ _. refl) e19 refl in
+    let e21 = put_next (attr.Text text.TargetElement) (λ before o. record before { texts = with_text before.texts text.TargetElement o }) attrs.texts.target_element (λ _ _. refl) e20 refl in
+    let e22 = put_next (attr.Text text.AttributeName) (λ before o. record before { texts = with_text before.texts text.AttributeName o }) attrs.texts.attribute_name (λ _ _. refl) e21 refl in
+    let e23 = put_next (attr.Text text.To) (λ before o. record before { texts = with_text before.texts text.To o }) attrs.texts.to (λ _ _. refl) e22 refl in
     e23

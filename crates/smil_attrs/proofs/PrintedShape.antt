@@ -12,6 +12,7 @@ use lib.Utf8.{encode}
 use Rattle.smil_model.specs.declared.document.Kind.{Kind}
 use Rattle.smil_model.specs.declared.document.AttrName.{AttrName}
 use Rattle.smil_model.specs.declared.document.AttrName.TheVariants as name
+use Rattle.smil_model.specs.declared.texts.TextName.TheVariants as text
 use Rattle.smil_grammar.specs.Texts.{space, quote, behind}
 use Rattle.smil_grammar.specs.Attributes.{kind_text, name_text, names}
 use Rattle.smil_grammar.specs.Nodes.{WrittenAttr, is_of_kind, attribute_at, attributes_at, quote_pieces, shape_of, shape_behind, saved_shape_of, repeats}
@@ -48,13 +49,13 @@ lead_read place value name.Endsync = refl
 lead_read place value name.Peers = refl
 lead_read place value name.Higher = refl
 lead_read place value name.Lower = refl
-lead_read place value name.Src = refl
-lead_read place value name.Region = refl
-lead_read place value name.Alt = refl
-lead_read place value name.Title = refl
-lead_read place value name.TargetElement = refl
-lead_read place value name.AttributeName = refl
-lead_read place value name.To = refl
+lead_read place value (name.Text text.Src) = refl
+lead_read place value (name.Text text.Region) = refl
+lead_read place value (name.Text text.Alt) = refl
+lead_read place value (name.Text text.Title) = refl
+lead_read place value (name.Text text.TargetElement) = refl
+lead_read place value (name.Text text.AttributeName) = refl
+lead_read place value (name.Text text.To) = refl
 
 -- pieces
 

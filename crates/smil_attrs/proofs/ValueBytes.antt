@@ -11,6 +11,8 @@ use Rattle.smil_model.specs.declared.document.Attr.{Attr}
 use Rattle.smil_model.specs.declared.document.Attr.TheVariants as attr
 use Rattle.smil_model.specs.declared.document.AttrName.{AttrName}
 use Rattle.smil_model.specs.declared.document.AttrName.TheVariants as name
+use Rattle.smil_model.specs.declared.texts.TextName.{TextName}
+use Rattle.smil_model.specs.declared.texts.TextName.TheVariants as text
 use Rattle.smil_model.specs.declared.document.Dur.{Dur}
 use Rattle.smil_model.specs.declared.document.Count.{Count}
 use Rattle.smil_model.specs.declared.document.Count.TheVariants as count
@@ -24,7 +26,7 @@ use Rattle.smil_grammar.specs.Clock.{clock_text}
 use Rattle.smil_grammar.specs.Clock.{clock_within}
 use Rattle.smil_grammar.specs.Items.{IsItem}
 use Rattle.smil_grammar.specs.Lists.{list_of, IsList}
-use Rattle.smil_grammar.specs.Values.{id_of, attribute_name_of, restart_default_of, fill_default_of, is_kept, kept_of, dur_of, time_of, repeat_dur_of, repeat_count_of, restart_of, fill_of, endsync_of, peers_of, higher_of, lower_of, plain_value_of}
+use Rattle.smil_grammar.specs.Values.{id_of, attribute_name_of, restart_default_of, fill_default_of, is_kept, kept_of, text_of, dur_of, time_of, repeat_dur_of, repeat_count_of, restart_of, fill_of, endsync_of, peers_of, higher_of, lower_of, plain_value_of}
 use Rattle.smil_grammar.specs.Spellings.{item_text, list_text, attr_text, dur_text, time_text, decimals, count_text, endsync_text}
 use Rattle.smil_grammar.specs.Allowed.{IsAttr}
 use Rattle.smil_lexis.proofs.TestedFronts.{Passes, tested, passes_weaker, passes_on}
@@ -127,6 +129,11 @@ endsync_kept text = endsync_reads EndsyncKept (tested is_kept (codes "last") ref
 text_kept : (text : List ℕ) → IfSome (kept_of text) AreKept
 text_kept text = own_where AreKept _ text (λ e. tested is_kept text (and_parts (is_utf8 text) _ e).1)
 
+named_kept : (n : TextName) (text : List ℕ) → IfSome (text_of n text) AreKept
+named_kept text.TargetElement text = id_kept (trim text)
+named_kept text.AttributeName text = attribute_name_kept (trim text)
+named_kept _ text = text_kept text
+
 -- attributes
 
 abbrev Q : Attr → Type 0
@@ -152,13 +159,7 @@ plain_kept in_seq name.Endsync text = value attr.Endsync EndsyncKept Q (λ x h. 
 plain_kept in_seq name.Peers text = any_value attr.Peers Q (λ a. spelled_kept in_seq (attr.Peers a) (act_spelled in_seq a)) (peers_of (trim text))
 plain_kept in_seq name.Higher text = any_value attr.Higher Q (λ a. spelled_kept in_seq (attr.Peers a) (act_spelled in_seq a)) (higher_of (trim text))
 plain_kept in_seq name.Lower text = any_value attr.Lower Q (λ a. spelled_kept in_seq (attr.Peers a) (act_spelled in_seq a)) (lower_of (trim text))
-plain_kept in_seq name.Src text = value attr.Src AreKept Q (λ kept h. h) (kept_of text) (text_kept text)
-plain_kept in_seq name.Region text = value attr.Region AreKept Q (λ kept h. h) (kept_of text) (text_kept text)
-plain_kept in_seq name.Alt text = value attr.Alt AreKept Q (λ kept h. h) (kept_of text) (text_kept text)
-plain_kept in_seq name.Title text = value attr.Title AreKept Q (λ kept h. h) (kept_of text) (text_kept text)
-plain_kept in_seq name.TargetElement text = value attr.TargetElement AreKept Q (λ id h. h) (id_of (trim text)) (id_kept (trim text))
-plain_kept in_seq name.AttributeName text = value attr.AttributeName AreKept Q (λ name h. h) (attribute_name_of (trim text)) (attribute_name_kept (trim text))
-plain_kept in_seq name.To text = value attr.To AreKept Q (λ kept h. h) (kept_of text) (text_kept text)
+plain_kept in_seq (name.Text n) text = value (attr.Text n) AreKept Q (λ kept h. h) (text_of n text) (named_kept n text)
 
 pub attr_kept : (in_seq : Bool) (given : Attr) → IsAttr in_seq given → AreKept (attr_text given)
 attr_kept in_seq given h = all_attrs in_seq Q (λ n text e. plain_kept in_seq n text) given h

@@ -2,10 +2,13 @@
 use Rattle.std.proofs.Common.{◌≡◌, ℕ, Bool, true, false, List, Option, Some, Ok, refl, subst}
 use Rattle.std.specs.Prelude.{pos, codes, bytes_eq, IfOk, IfSome}
 use Rattle.std.specs.List.{list_all}
+use Rattle.std.proofs.lemmas.Option.{IfSome_then}
 use Rattle.smil_model.specs.declared.document.Attr.{Attr}
 use Rattle.smil_model.specs.declared.document.Attr.TheVariants as attr
 use Rattle.smil_model.specs.declared.document.AttrName.{AttrName}
 use Rattle.smil_model.specs.declared.document.AttrName.TheVariants as name
+use Rattle.smil_model.specs.declared.texts.TextName.{TextName}
+use Rattle.smil_model.specs.declared.texts.TextName.TheVariants as text
 use Rattle.smil_model.specs.declared.document.Dur.{Dur}
 use Rattle.smil_model.specs.declared.document.Count.{Count}
 use Rattle.smil_model.specs.declared.document.Restart.{Restart}
@@ -25,7 +28,7 @@ use Rattle.smil_model.specs.declared.times.Time.TheVariants as time
 use Rattle.smil_grammar.specs.Texts.{trim}
 use Rattle.smil_grammar.specs.Clock.{clock_within}
 use Rattle.smil_grammar.specs.Lists.{list_of, IsList}
-use Rattle.smil_grammar.specs.Values.{id_of, attribute_name_of, restart_default_of, fill_default_of, is_kept, kept_of, dur_of, time_of, repeat_dur_of, repeat_count_of, restart_of, fill_of, endsync_of, peers_of, higher_of, lower_of, is_other_value, plain_value_of, value_of}
+use Rattle.smil_grammar.specs.Values.{id_of, attribute_name_of, restart_default_of, fill_default_of, is_kept, dur_of, time_of, repeat_dur_of, repeat_count_of, restart_of, fill_of, endsync_of, peers_of, higher_of, lower_of, is_other_value, text_of, plain_value_of, value_of}
 use Rattle.smil_grammar.specs.Spellings.{attr_text, dur_text, time_text, count_text, act_text}
 use Rattle.smil_grammar.specs.Allowed.{name_of, IsAttr}
 use Rattle.smil_time_list.proofs.PrintableItems.{clock_small}
@@ -36,7 +39,7 @@ use Rattle.smil_attrs.proofs.AttributeCases.{dur_reads, time_reads, repeat_reads
 use Rattle.smil_attrs.proofs.ClockRoundTrip.{trimmed, no_keyword, dur_read, time_read, repeat_read}
 use Rattle.smil_attrs.proofs.CountRoundTrip.{count_read}
 use Rattle.smil_attrs.proofs.EditedAttributes.{lists}
-use Rattle.smil_attrs.proofs.WordRoundTrip.{IsWholeId, IsWholeName, IsWholeText, id_whole, attribute_name_whole, kept_whole}
+use Rattle.smil_attrs.proofs.WordRoundTrip.{IsWholeId, id_whole, attribute_name_whole, kept_whole}
 
 -- a value is read again
 abbrev pub Again : Bool → Attr → Type 0
@@ -136,6 +139,16 @@ endsync_again in_seq text media = endsync_reads (EndsyncAgain in_seq) refl refl 
         let whole : IsWholeId text = subst (λ (o : Option (List ℕ)). IfSome o IsWholeId) id (id_whole text) in
         rw (whole.1, media, last, first, all, id) refl
 
+-- plain texts
+
+abbrev TextAgain : TextName → List ℕ → Type 0
+TextAgain n text = text_of n text ≡ Some text
+
+text_again : (n : TextName) (text : List ℕ) → IfSome (text_of n text) (TextAgain n)
+text_again text.TargetElement text = IfSome_then (id_of (trim text)) (id_whole (trim text)) (λ id h. rw (h.1, h.0) refl)
+text_again text.AttributeName text = IfSome_then (attribute_name_of (trim text)) (attribute_name_whole (trim text)) (λ name h. rw (h.1, h.0) refl)
+text_again _ text = kept_whole text
+
 -- attributes
 
 plain_again : (in_seq : Bool) (n : AttrName) (text : List ℕ) → is_other_value n (trim text) ≡ false → IfOk (plain_value_of in_seq n text) (Again in_seq)
@@ -155,13 +168,7 @@ plain_again in_seq name.Endsync text e = value attr.Endsync (EndsyncAgain in_seq
 plain_again in_seq name.Peers text e = any_value attr.Peers (Again in_seq) (λ a. (act_spelled in_seq a).0) (peers_of (trim text))
 plain_again in_seq name.Higher text e = value attr.Higher HigherAgain (Again in_seq) (λ a h. rw h refl) (higher_of (trim text)) (higher_again (trim text))
 plain_again in_seq name.Lower text e = value attr.Lower LowerAgain (Again in_seq) (λ a h. rw h refl) (lower_of (trim text)) (lower_again (trim text))
-plain_again in_seq name.Src text e = value attr.Src IsWholeText (Again in_seq) (λ kept h. rw h refl) (kept_of text) (kept_whole text)
-plain_again in_seq name.Region text e = value attr.Region IsWholeText (Again in_seq) (λ kept h. rw h refl) (kept_of text) (kept_whole text)
-plain_again in_seq name.Alt text e = value attr.Alt IsWholeText (Again in_seq) (λ kept h. rw h refl) (kept_of text) (kept_whole text)
-plain_again in_seq name.Title text e = value attr.Title IsWholeText (Again in_seq) (λ kept h. rw h refl) (kept_of text) (kept_whole text)
-plain_again in_seq name.TargetElement text e = value attr.TargetElement IsWholeId (Again in_seq) (λ id h. rw (h.1, h.0) refl) (id_of (trim text)) (id_whole (trim text))
-plain_again in_seq name.AttributeName text e = value attr.AttributeName IsWholeName (Again in_seq) (λ name h. rw (h.1, h.0) refl) (attribute_name_of (trim text)) (attribute_name_whole (trim text))
-plain_again in_seq name.To text e = value attr.To IsWholeText (Again in_seq) (λ kept h. rw h refl) (kept_of text) (kept_whole text)
+plain_again in_seq (name.Text n) text e = value (attr.Text n) (TextAgain n) (Again in_seq) (λ kept h. rw h refl) (text_of n text) (text_again n text)
 
 pub attr_again : (in_seq : Bool) (given : Attr) → IsAttr in_seq given → value_of in_seq (name_of given) (attr_text given) ≡ Ok given
 attr_again in_seq given h = all_attrs in_seq (Again in_seq) (plain_again in_seq) given h

@@ -7,6 +7,7 @@ use Rattle.smil_model.specs.declared.document.Kind.{Kind}
 use Rattle.smil_model.specs.declared.document.Kind.TheVariants as kind
 use Rattle.smil_model.specs.declared.document.AttrName.{AttrName}
 use Rattle.smil_model.specs.declared.document.AttrName.TheVariants as name
+use Rattle.smil_model.specs.declared.texts.TextName.TheVariants as text
 use Rattle.smil_grammar.specs.Attributes.{kind_text, kind_called, kinds, name_text, name_called, names}
 
 pub kind_known : (k : Kind) → kind_called (kind_text k) ≡ Some k
@@ -41,13 +42,13 @@ name_known name.Endsync = refl
 name_known name.Peers = refl
 name_known name.Higher = refl
 name_known name.Lower = refl
-name_known name.Src = refl
-name_known name.Region = refl
-name_known name.Alt = refl
-name_known name.Title = refl
-name_known name.TargetElement = refl
-name_known name.AttributeName = refl
-name_known name.To = refl
+name_known (name.Text text.Src) = refl
+name_known (name.Text text.Region) = refl
+name_known (name.Text text.Alt) = refl
+name_known (name.Text text.Title) = refl
+name_known (name.Text text.TargetElement) = refl
+name_known (name.Text text.AttributeName) = refl
+name_known (name.Text text.To) = refl
 
 -- what is found in a list that passes a test passes it
 found_passes : {A : Type 0} (test wanted : A → Bool) (xs : List A) (x : A) → list_all test xs ≡ true → find wanted xs ≡ Some x → test x ≡ true

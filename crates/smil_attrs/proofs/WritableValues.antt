@@ -52,13 +52,7 @@ plain_fits in_seq name.Endsync text = any_value attr.Endsync CanWriteAttr (λ x.
 plain_fits in_seq name.Peers text = any_value attr.Peers CanWriteAttr (λ x. tt) _
 plain_fits in_seq name.Higher text = any_value attr.Higher CanWriteAttr (λ x. tt) _
 plain_fits in_seq name.Lower text = any_value attr.Lower CanWriteAttr (λ x. tt) _
-plain_fits in_seq name.Src text = any_value attr.Src CanWriteAttr (λ x. tt) _
-plain_fits in_seq name.Region text = any_value attr.Region CanWriteAttr (λ x. tt) _
-plain_fits in_seq name.Alt text = any_value attr.Alt CanWriteAttr (λ x. tt) _
-plain_fits in_seq name.Title text = any_value attr.Title CanWriteAttr (λ x. tt) _
-plain_fits in_seq name.TargetElement text = any_value attr.TargetElement CanWriteAttr (λ x. tt) _
-plain_fits in_seq name.AttributeName text = any_value attr.AttributeName CanWriteAttr (λ x. tt) _
-plain_fits in_seq name.To text = any_value attr.To CanWriteAttr (λ x. tt) _
+plain_fits in_seq (name.Text n) text = any_value (attr.Text n) CanWriteAttr (λ x. tt) _
 
 pub attr_fits : (in_seq : Bool) (given : Attr) → IsAttr in_seq given → CanWriteAttr given
 attr_fits in_seq given h = all_attrs in_seq CanWriteAttr (λ n text e. plain_fits in_seq n text) given h

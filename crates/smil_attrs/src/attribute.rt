@@ -39,13 +39,10 @@ fn plain_value(alloc: Global, name: AttrName, value: &[u8], in_seq: bool) -> Res
         AttrName::Peers => Ok(Attr::Peers(values::peers(text).ok_or(BAD)?)),
         AttrName::Higher => Ok(Attr::Higher(values::higher(text).ok_or(BAD)?)),
         AttrName::Lower => Ok(Attr::Lower(values::lower(text).ok_or(BAD)?)),
-        AttrName::Src => Ok(Attr::Src(values::kept(alloc, value)?)),
-        AttrName::Region => Ok(Attr::Region(values::kept(alloc, value)?)),
-        AttrName::Alt => Ok(Attr::Alt(values::kept(alloc, value)?)),
-        AttrName::Title => Ok(Attr::Title(values::kept(alloc, value)?)),
-        AttrName::TargetElement => Ok(Attr::TargetElement(values::id(alloc, text)?)),
-        AttrName::AttributeName => Ok(Attr::AttributeName(values::attribute_name(alloc, text)?)),
-        AttrName::To => Ok(Attr::To(values::kept(alloc, value)?)),
+        AttrName::Text(name) => Ok(Attr::Text {
+            name,
+            text: values::text(alloc, name, value)?,
+        }),
     }
 }
 

@@ -1,11 +1,12 @@
 //! Names of attributes, and which kind has which.
 
 ghost use Rattle.std.specs.Prelude.{◌≡◌, ℕ, Option, List};
+ghost use Rattle.smil_model.specs.document.Texts.{has_text as has_plain_text};
 ghost use Rattle.smil_grammar.specs.Attributes.{name_text, name_called, has as has_name, attr_name_of, is_other_name};
 
 use smil_grammar::AttrFault;
 use smil_lexis::texts::is;
-use smil_model::{AttrName, Kind};
+use smil_model::{AttrName, Kind, TextName};
 
 /// All attributes, in the order in which they are printed.
 pub const NAMES: [AttrName; 23] = [
@@ -25,13 +26,13 @@ pub const NAMES: [AttrName; 23] = [
     AttrName::Peers,
     AttrName::Higher,
     AttrName::Lower,
-    AttrName::Src,
-    AttrName::Region,
-    AttrName::Alt,
-    AttrName::Title,
-    AttrName::TargetElement,
-    AttrName::AttributeName,
-    AttrName::To,
+    AttrName::Text(TextName::Src),
+    AttrName::Text(TextName::Region),
+    AttrName::Text(TextName::Alt),
+    AttrName::Text(TextName::Title),
+    AttrName::Text(TextName::TargetElement),
+    AttrName::Text(TextName::AttributeName),
+    AttrName::Text(TextName::To),
 ];
 
 /// The name of an attribute.
@@ -55,13 +56,13 @@ pub fn text(name: AttrName) -> &'static [u8]
         AttrName::Peers => b"peers",
         AttrName::Higher => b"higher",
         AttrName::Lower => b"lower",
-        AttrName::Src => b"src",
-        AttrName::Region => b"region",
-        AttrName::Alt => b"alt",
-        AttrName::Title => b"title",
-        AttrName::TargetElement => b"targetElement",
-        AttrName::AttributeName => b"attributeName",
-        AttrName::To => b"to",
+        AttrName::Text(TextName::Src) => b"src",
+        AttrName::Text(TextName::Region) => b"region",
+        AttrName::Text(TextName::Alt) => b"alt",
+        AttrName::Text(TextName::Title) => b"title",
+        AttrName::Text(TextName::TargetElement) => b"targetElement",
+        AttrName::Text(TextName::AttributeName) => b"attributeName",
+        AttrName::Text(TextName::To) => b"to",
     }
 }
 
@@ -70,6 +71,19 @@ fn called(word: &[u8]) -> Option<AttrName>
     ensures { result ≡ name_called word.now }
 {
     NAMES.iter().copied().find(|name| is(word, text(*name)))
+}
+
+// Whether a node of this kind can have the plain text.
+fn has_text(kind: Kind, name: TextName) -> bool
+    ensures { result ≡ has_plain_text kind name }
+{
+    match name {
+        TextName::TargetElement | TextName::AttributeName | TextName::To => {
+            matches!(kind, Kind::Set)
+        }
+        TextName::Title => kind.is_element(),
+        _ => !matches!(kind, Kind::PriorityClass | Kind::Set),
+    }
 }
 
 // Whether a node of this kind can have the attribute.
@@ -82,12 +96,7 @@ fn has(kind: Kind, name: AttrName) -> bool
         AttrName::Peers | AttrName::Higher | AttrName::Lower => {
             matches!(kind, Kind::PriorityClass)
         }
-        AttrName::TargetElement | AttrName::AttributeName | AttrName::To => {
-            matches!(kind, Kind::Set)
-        }
-        AttrName::Src | AttrName::Region | AttrName::Alt => {
-            !matches!(kind, Kind::PriorityClass | Kind::Set)
-        }
+        AttrName::Text(name) => has_text(kind, name),
         _ => kind.is_element(),
     }
 }

@@ -235,13 +235,7 @@ fn value_of(name: AttrName, attrs: &Attrs) -> Option<Value<'_>>
         AttrName::Peers => Some(Value::Text(act(attrs.peers?))),
         AttrName::Higher => Some(Value::Text(act(attrs.higher?))),
         AttrName::Lower => Some(Value::Text(act(attrs.lower?))),
-        AttrName::Src => text(&attrs.src),
-        AttrName::Region => text(&attrs.region),
-        AttrName::Alt => text(&attrs.alt),
-        AttrName::Title => text(&attrs.title),
-        AttrName::TargetElement => text(&attrs.target_element),
-        AttrName::AttributeName => text(&attrs.attribute_name),
-        AttrName::To => text(&attrs.to),
+        AttrName::Text(name) => text(attrs.texts.get(name)),
     }
 }
 

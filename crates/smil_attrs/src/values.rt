@@ -4,18 +4,18 @@ ghost use Rattle.std.specs.Prelude.{◌≡◌, ◌&&◌, ℕ, Option, List, opti
 ghost use Rattle.std.specs.List.{list_all};
 ghost use Rattle.smil_grammar.specs.Numbers.{with_fraction};
 ghost use Rattle.smil_grammar.specs.Lists.{list_of, is_begin};
-ghost use Rattle.smil_grammar.specs.Values.{restart_of, restart_default_of, fill_default_of, attribute_name_of, peers_of, higher_of, lower_of, fill_of, time_of, repeat_dur_of, dur_of, id_of, kept_of, repeat_count_of, endsync_of, short_number_of, thousandths as whole_thousandths, is_kept as is_kept_byte, is_other_value};
+ghost use Rattle.smil_grammar.specs.Values.{restart_of, restart_default_of, fill_default_of, attribute_name_of, peers_of, higher_of, lower_of, fill_of, time_of, repeat_dur_of, dur_of, id_of, kept_of, repeat_count_of, endsync_of, short_number_of, thousandths as whole_thousandths, is_kept as is_kept_byte, is_other_value, text_of};
 ghost use Rattle.smil_attrs.specs.Reads.{GivesValue, GivesItems};
 
 use smil_clock_value::clock_within;
 use smil_grammar::{AttrFault, ListFault};
 use smil_lexis::numbers::{fraction, short_number};
 use smil_lexis::runs;
-use smil_lexis::texts::{cut, is};
+use smil_lexis::texts::{cut, is, trim};
 use smil_lexis::utf8::is_utf8;
 use smil_model::{
     Act, AttrName, Bytes, Count, Dur, Edge, Endsync, Fill, FillDefault, Items, Restart,
-    RestartDefault, Time,
+    RestartDefault, TextName, Time,
 };
 use smil_time_list::lists::read_list;
 use std::alloc::Global;
@@ -266,6 +266,17 @@ pub fn attribute_name(alloc: Global, text: &[u8]) -> Result<Bytes, AttrFault>
         return Err(BAD);
     }
     Ok(Bytes::of(alloc, text)?)
+}
+
+/// The value of a plain text, without the white space at its ends where it is an id or a name.
+pub fn text(alloc: Global, name: TextName, value: &[u8]) -> Result<Bytes, AttrFault>
+    ensures { GivesValue result (text_of name value.now) }
+{
+    match name {
+        TextName::TargetElement => id(alloc, trim(value)),
+        TextName::AttributeName => attribute_name(alloc, trim(value)),
+        _ => kept(alloc, value),
+    }
 }
 
 /// The list of `begin` or `end`.

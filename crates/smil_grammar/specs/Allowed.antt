@@ -28,13 +28,7 @@ name_of (attr.Endsync _) = name.Endsync
 name_of (attr.Peers _) = name.Peers
 name_of (attr.Higher _) = name.Higher
 name_of (attr.Lower _) = name.Lower
-name_of (attr.Src _) = name.Src
-name_of (attr.Region _) = name.Region
-name_of (attr.Alt _) = name.Alt
-name_of (attr.Title _) = name.Title
-name_of (attr.TargetElement _) = name.TargetElement
-name_of (attr.AttributeName _) = name.AttributeName
-name_of (attr.To _) = name.To
+name_of (attr.Text n _) = name.Text n
 
 -- an attribute that some text is read as; in_seq says that it is of a child of a seq
 abbrev pub IsAttr : Bool → Attr → Type 0

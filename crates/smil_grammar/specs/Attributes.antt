@@ -1,13 +1,15 @@
 -- Which attributes a kind has, and how they are spelled.
-use Rattle.std.specs.Prelude.{ℕ, Bool, true, not, ◌&&◌, List, [], ◌∷◌, Option, Some, None, Result, Ok, Err, find, if◌then◌else◌, codes, bytes_eq}
+use Rattle.std.specs.Prelude.{ℕ, Bool, true, not, List, [], ◌∷◌, map, Option, Some, None, Result, Ok, Err, find, if◌then◌else◌, codes, bytes_eq}
 use Rattle.std.specs.List.{list_any}
 use Rattle.smil_model.specs.declared.document.Kind.{Kind}
 use Rattle.smil_model.specs.declared.document.Kind.TheVariants as kind
 use Rattle.smil_model.specs.declared.document.AttrName.{AttrName}
 use Rattle.smil_model.specs.declared.document.AttrName.TheVariants as name
+use Rattle.smil_model.specs.declared.texts.TextName.TheVariants as text
 use Rattle.smil_grammar.specs.declared.fault.AttrFault.{AttrFault}
 use Rattle.smil_grammar.specs.declared.fault.AttrFault.TheVariants.{UnknownAttribute, UnsupportedName}
-use Rattle.smil_model.specs.document.Document.{is_class_kind, is_set_kind}
+use Rattle.smil_model.specs.document.Document.{is_class_kind}
+use Rattle.smil_model.specs.document.Texts.{has_text, text_names}
 pub use Rattle.smil_model.specs.document.Values.{has_endsync}
 
 -- the word of a kind
@@ -60,41 +62,35 @@ name_text name.Endsync = codes "endsync"
 name_text name.Peers = codes "peers"
 name_text name.Higher = codes "higher"
 name_text name.Lower = codes "lower"
-name_text name.Src = codes "src"
-name_text name.Region = codes "region"
-name_text name.Alt = codes "alt"
-name_text name.Title = codes "title"
-name_text name.TargetElement = codes "targetElement"
-name_text name.AttributeName = codes "attributeName"
-name_text name.To = codes "to"
+name_text (name.Text text.Src) = codes "src"
+name_text (name.Text text.Region) = codes "region"
+name_text (name.Text text.Alt) = codes "alt"
+name_text (name.Text text.Title) = codes "title"
+name_text (name.Text text.TargetElement) = codes "targetElement"
+name_text (name.Text text.AttributeName) = codes "attributeName"
+name_text (name.Text text.To) = codes "to"
 
 -- all attributes, in the order in which they are printed
 abbrev pub names : List AttrName
 names =
     name.Id ∷ name.Begin ∷ name.Dur ∷ name.End ∷ name.Min ∷ name.Max ∷ name.RepeatCount
     ∷ name.RepeatDur ∷ name.Restart ∷ name.Fill ∷ name.RestartDefault ∷ name.FillDefault
-    ∷ name.Endsync ∷ name.Peers ∷ name.Higher ∷ name.Lower ∷ name.Src ∷ name.Region ∷ name.Alt
-    ∷ name.Title ∷ name.TargetElement ∷ name.AttributeName ∷ name.To ∷ []
+    ∷ name.Endsync ∷ name.Peers ∷ name.Higher ∷ name.Lower ∷ map name.Text text_names
 
 -- the attribute of a word
 abbrev pub name_called : List ℕ → Option AttrName
 name_called text = find (λ n. bytes_eq text (name_text n)) names
 
 -- each kind has an id; a priorityClass has its three besides and no others;
--- of the other kinds only a set has its three, a set has no src, region or alt,
--- only a par or an excl has endsync, and all have the rest
+-- of the other kinds only a par or an excl has endsync, each has its texts,
+-- and all have the rest
 abbrev pub has : Kind → AttrName → Bool
 has k name.Id = true
 has k name.Endsync = has_endsync k
 has k name.Peers = is_class_kind k
 has k name.Higher = is_class_kind k
 has k name.Lower = is_class_kind k
-has k name.TargetElement = is_set_kind k
-has k name.AttributeName = is_set_kind k
-has k name.To = is_set_kind k
-has k name.Src = not (is_class_kind k) && not (is_set_kind k)
-has k name.Region = not (is_class_kind k) && not (is_set_kind k)
-has k name.Alt = not (is_class_kind k) && not (is_set_kind k)
+has k (name.Text n) = has_text k n
 has k _ = not (is_class_kind k)
 
 -- attributes of SMIL that are left out

@@ -27,6 +27,7 @@ use Rattle.smil_model.specs.declared.document.Attr.TheVariants as attr
 use Rattle.smil_model.specs.declared.document.AttrName.{AttrName}
 use Rattle.smil_model.specs.declared.document.AttrName.TheVariants as name
 use Rattle.smil_model.specs.Times.{IsNear}
+use Rattle.smil_model.specs.document.Texts.{text_at}
 use Rattle.smil_grammar.specs.declared.words.TheConstants.{ACCESS_KEY, HEADER}
 use Rattle.smil_model.specs.declared.times.Time.{Time}
 use Rattle.smil_model.specs.declared.times.Time.TheVariants as time
@@ -163,13 +164,7 @@ attr_text (attr.Endsync e) = endsync_text e
 attr_text (attr.Peers a) = act_text a
 attr_text (attr.Higher a) = act_text a
 attr_text (attr.Lower a) = act_text a
-attr_text (attr.Src text) = text
-attr_text (attr.Region text) = text
-attr_text (attr.Alt text) = text
-attr_text (attr.Title text) = text
-attr_text (attr.TargetElement id) = id
-attr_text (attr.AttributeName text) = text
-attr_text (attr.To text) = text
+attr_text (attr.Text n text) = text
 
 -- the attribute of this name, where it is there
 abbrev pub attr_at : Attrs → AttrName → Option Attr
@@ -189,13 +184,7 @@ attr_at a name.Endsync = option_map attr.Endsync a.endsync
 attr_at a name.Peers = option_map attr.Peers a.peers
 attr_at a name.Higher = option_map attr.Higher a.higher
 attr_at a name.Lower = option_map attr.Lower a.lower
-attr_at a name.Src = option_map attr.Src a.src
-attr_at a name.Region = option_map attr.Region a.region
-attr_at a name.Alt = option_map attr.Alt a.alt
-attr_at a name.Title = option_map attr.Title a.title
-attr_at a name.TargetElement = option_map attr.TargetElement a.target_element
-attr_at a name.AttributeName = option_map attr.AttributeName a.attribute_name
-attr_at a name.To = option_map attr.To a.to
+attr_at a (name.Text n) = option_map (attr.Text n) (text_at a.texts n)
 
 -- the spelling of an attribute's value, where it is there
 abbrev pub value_text : Attrs → AttrName → Option (List ℕ)

@@ -9,6 +9,8 @@ use Rattle.smil_model.specs.document.Words.{is_attribute_name}
 use Rattle.smil_model.specs.declared.document.Attr.TheVariants as attr
 use Rattle.smil_model.specs.declared.document.AttrName.{AttrName}
 use Rattle.smil_model.specs.declared.document.AttrName.TheVariants as name
+use Rattle.smil_model.specs.declared.texts.TextName.{TextName}
+use Rattle.smil_model.specs.declared.texts.TextName.TheVariants.{TargetElement, AttributeName}
 use Rattle.smil_model.specs.declared.document.Dur.{Dur}
 use Rattle.smil_model.specs.declared.document.Dur.TheVariants as dur
 use Rattle.smil_model.specs.declared.document.Count.{Count}
@@ -159,6 +161,12 @@ lower_of text = keyword ((codes "defer", act.Defer) ∷ (codes "never", act.Neve
 abbrev pub kept_of : List ℕ → Option (List ℕ)
 kept_of text = if is_utf8 text && list_all is_kept text then Some text else None
 
+-- a plain text
+abbrev pub text_of : TextName → List ℕ → Option (List ℕ)
+text_of TargetElement text = id_of (trim text)
+text_of AttributeName text = attribute_name_of (trim text)
+text_of _ text = kept_of text
+
 -- values of SMIL that are left out
 abbrev pub is_other_value : AttrName → List ℕ → Bool
 is_other_value name.Min text = bytes_eq text (codes "media")
@@ -202,14 +210,7 @@ plain_value_of in_seq name.Endsync text = of_value attr.Endsync (endsync_of (tri
 plain_value_of in_seq name.Peers text = of_value attr.Peers (peers_of (trim text))
 plain_value_of in_seq name.Higher text = of_value attr.Higher (higher_of (trim text))
 plain_value_of in_seq name.Lower text = of_value attr.Lower (lower_of (trim text))
-plain_value_of in_seq name.Src text = of_value attr.Src (kept_of text)
-plain_value_of in_seq name.Region text = of_value attr.Region (kept_of text)
-plain_value_of in_seq name.Alt text = of_value attr.Alt (kept_of text)
-plain_value_of in_seq name.Title text = of_value attr.Title (kept_of text)
-plain_value_of in_seq name.TargetElement text = of_value attr.TargetElement (id_of (trim text))
-plain_value_of in_seq name.AttributeName text =
-    of_value attr.AttributeName (attribute_name_of (trim text))
-plain_value_of in_seq name.To text = of_value attr.To (kept_of text)
+plain_value_of in_seq (name.Text n) text = of_value (attr.Text n) (text_of n text)
 
 -- a value, where it isn't left out
 abbrev pub value_of : Bool → AttrName → List ℕ → Result Attr AttrFault

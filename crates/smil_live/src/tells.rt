@@ -311,7 +311,7 @@ fn value_of(tree: &Tree, setter: u32) -> &[u8]
     requires { IsSome (node_at tree.now.nodes setter) }
     ensures { result.now ≡ model_value_of tree.now.nodes setter }
 {
-    match &tree.attrs(setter).to {
+    match &tree.attrs(setter).texts.to {
         Some(value) => value.slice(),
         None => b"",
     }

@@ -5,3 +5,4 @@ pub mod SerialTables
 pub mod PlaceSets
 pub mod FirstPlaces
 pub mod Tournaments
+pub mod TextTables

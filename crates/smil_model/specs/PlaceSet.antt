@@ -16,7 +16,9 @@ places_from passes place (suc count) =
 unfoldable pub places_of : List ℕ → List ℕ
 places_of words = places_from (is_in words) 0 (64 * length words)
 
--- no place is in a word before this one, and each place is the number of one
-pub record ArePlaces (words : List ℕ) (first : ℕ) : Type 0 where
+-- no place is in a word before the first one or from `end` on, and each place is the number of one
+pub record ArePlaces (words : List ℕ) (first end' : ℕ) : Type 0 where
   pub none_before : (place : ℕ) → place / 64 < first → is_in words place ≡ false
+  pub none_behind : (place : ℕ) → end' ≤ place / 64 → is_in words place ≡ false
+  pub within : end' ≤ length words
   pub few : length words ≤ 2 ^ 58

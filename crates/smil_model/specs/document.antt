@@ -2,6 +2,7 @@
 pub mod Limits
 pub mod Document
 pub mod Words
+pub mod Texts
 pub mod Defaults
 pub mod Values
 pub mod Valid

@@ -26,13 +26,7 @@ pub fn with_attr(attrs: &mut Attrs, attr: Attr)
         Attr::Peers(value) => attrs.peers = Some(value),
         Attr::Higher(value) => attrs.higher = Some(value),
         Attr::Lower(value) => attrs.lower = Some(value),
-        Attr::Src(value) => attrs.src = Some(value),
-        Attr::Region(value) => attrs.region = Some(value),
-        Attr::Alt(value) => attrs.alt = Some(value),
-        Attr::Title(value) => attrs.title = Some(value),
-        Attr::TargetElement(value) => attrs.target_element = Some(value),
-        Attr::AttributeName(value) => attrs.attribute_name = Some(value),
-        Attr::To(value) => attrs.to = Some(value),
+        Attr::Text { name, text } => attrs.texts.put(name, Some(text)),
     }
 }
 
@@ -57,12 +51,6 @@ pub fn without_attr(attrs: &mut Attrs, name: AttrName)
         AttrName::Peers => attrs.peers = None,
         AttrName::Higher => attrs.higher = None,
         AttrName::Lower => attrs.lower = None,
-        AttrName::Src => attrs.src = None,
-        AttrName::Region => attrs.region = None,
-        AttrName::Alt => attrs.alt = None,
-        AttrName::Title => attrs.title = None,
-        AttrName::TargetElement => attrs.target_element = None,
-        AttrName::AttributeName => attrs.attribute_name = None,
-        AttrName::To => attrs.to = None,
+        AttrName::Text(name) => attrs.texts.put(name, None),
     }
 }

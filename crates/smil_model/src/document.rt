@@ -6,6 +6,7 @@ use super::duplicate::{Duplicate, copy_of};
 use super::growing_list::{Bytes, GrowingList};
 use super::limits::ITEMS;
 use super::places::HasSerial;
+use super::texts::{TextName, Texts};
 use super::times::Time;
 use std::alloc::{AllocError, Global};
 use std::marker::Model;
@@ -315,13 +316,7 @@ pub struct Attrs {
     pub peers: Option<Act>,
     pub higher: Option<Act>,
     pub lower: Option<Act>,
-    pub src: Option<Bytes>,
-    pub region: Option<Bytes>,
-    pub alt: Option<Bytes>,
-    pub title: Option<Bytes>,
-    pub target_element: Option<Bytes>,
-    pub attribute_name: Option<Bytes>,
-    pub to: Option<Bytes>,
+    pub texts: Texts,
 }
 
 impl Attrs {
@@ -349,13 +344,7 @@ impl Attrs {
             peers: None,
             higher: None,
             lower: None,
-            src: None,
-            region: None,
-            alt: None,
-            title: None,
-            target_element: None,
-            attribute_name: None,
-            to: None,
+            texts: Texts::none(),
         }
     }
 
@@ -389,13 +378,7 @@ impl Duplicate for Attrs {
             peers: self.peers,
             higher: self.higher,
             lower: self.lower,
-            src: copy_of(&self.src)?,
-            region: copy_of(&self.region)?,
-            alt: copy_of(&self.alt)?,
-            title: copy_of(&self.title)?,
-            target_element: copy_of(&self.target_element)?,
-            attribute_name: copy_of(&self.attribute_name)?,
-            to: copy_of(&self.to)?,
+            texts: self.texts.copy()?,
         })
     }
 }
@@ -449,13 +432,7 @@ pub enum Attr {
     Peers(Act),
     Higher(Act),
     Lower(Act),
-    Src(Bytes),
-    Region(Bytes),
-    Alt(Bytes),
-    Title(Bytes),
-    TargetElement(Bytes),
-    AttributeName(Bytes),
-    To(Bytes),
+    Text { name: TextName, text: Bytes },
 }
 
 /// An attribute's name.
@@ -477,13 +454,7 @@ pub enum AttrName {
     Peers,
     Higher,
     Lower,
-    Src,
-    Region,
-    Alt,
-    Title,
-    TargetElement,
-    AttributeName,
-    To,
+    Text(TextName),
 }
 
 /// A document, seen as its nodes in document order and the next serial.

@@ -27,7 +27,7 @@ use Rattle.smil_grammar.specs.Texts.{is_white, trim, behind}
 use Rattle.smil_grammar.specs.Items.{item_of}
 use Rattle.smil_grammar.specs.Items.{count_of as count_in}
 use Rattle.smil_grammar.specs.Lists.{item_at, piece_at, items_from, few_items, item_pieces, is_plain, plain_at, list_of}
-use Rattle.smil_grammar.specs.Values.{id_of, attribute_name_of, restart_default_of, fill_default_of, dur_of, time_of, repeat_count_of, repeat_dur_of, restart_of, fill_of, endsync_of, peers_of, higher_of, lower_of, kept_of, is_other_value, of_list, of_value, plain_value_of, value_of}
+use Rattle.smil_grammar.specs.Values.{id_of, restart_default_of, fill_default_of, dur_of, time_of, repeat_count_of, repeat_dur_of, restart_of, fill_of, endsync_of, peers_of, higher_of, lower_of, text_of, is_other_value, of_list, of_value, plain_value_of, value_of}
 use Rattle.smil_grammar.specs.Clock.{clock_within}
 use Rattle.smil_grammar.specs.Attributes.{attr_name_of, name_called, name_or, unnamed, is_other_name, has, kind_called, is_other_kind}
 use Rattle.smil_grammar.specs.Nodes.{is_of_kind, WrittenAttr, attributes_at, Shape, shaped, shape_of, with_serial, shape_behind, saved_shape_of, repeats, kind_or, kind_of_shape, column_at, at_column, attribute_of, attr_of, attrs_from}
@@ -110,13 +110,7 @@ plain_near in_seq name.Endsync text = of_value_near _ attr.Endsync (endsync_of (
 plain_near in_seq name.Peers text = of_value_near _ attr.Peers (peers_of (trim text))
 plain_near in_seq name.Higher text = of_value_near _ attr.Higher (higher_of (trim text))
 plain_near in_seq name.Lower text = of_value_near _ attr.Lower (lower_of (trim text))
-plain_near in_seq name.Src text = of_value_near _ attr.Src (kept_of text)
-plain_near in_seq name.Region text = of_value_near _ attr.Region (kept_of text)
-plain_near in_seq name.Alt text = of_value_near _ attr.Alt (kept_of text)
-plain_near in_seq name.Title text = of_value_near _ attr.Title (kept_of text)
-plain_near in_seq name.TargetElement text = of_value_near _ attr.TargetElement (id_of (trim text))
-plain_near in_seq name.AttributeName text = of_value_near _ attr.AttributeName (attribute_name_of (trim text))
-plain_near in_seq name.To text = of_value_near _ attr.To (kept_of text)
+plain_near in_seq (name.Text n) text = of_value_near _ (attr.Text n) (text_of n text)
 
 value_near : (in_seq : Bool) (n : AttrName) (text : List ℕ) → IfErr (value_of in_seq n text) (AttrPlace (length text))
 value_near in_seq n text = cond_both (is_other_value n (trim text)) (Err (attr_fault.UnsupportedValue 0)) (plain_value_of in_seq n text) (λ r. IfErr r (AttrPlace (length text))) (λ e. omega arith) (λ e. plain_near in_seq n text)

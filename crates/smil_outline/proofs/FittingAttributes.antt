@@ -1,5 +1,5 @@
 -- Attributes that fit the kinds of a node and its parent are attributes of the kind, each of which some text is read as.
-use Rattle.std.proofs.Common.{◌≡◌, ℕ, ◌+◌, ◌<◌, ◌≤◌, Bool, true, false, not, cond, eqb, ltb, leb, ◌&&◌, ◌||◌, List, [], ◌∷◌, length, Option, Some, None, option_map, is_some, refl, subst, arith}
+use Rattle.std.proofs.Common.{◌≡◌, ℕ, ◌+◌, ◌<◌, ◌≤◌, Bool, true, false, not, eqb, ltb, leb, ◌&&◌, ◌||◌, List, [], ◌∷◌, length, Option, Some, None, option_map, is_some, refl, subst, arith}
 use Rattle.std.specs.Prelude.{ℤ, pos, negsuc, int_le, codes, bytes_eq, IfSome, IsTrue}
 use Rattle.std.specs.List.{AllByRecursion, prefix_len, list_all}
 use Rattle.std.proofs.lemmas.Bool.{and_parts, or_parts, not-true, not_from_false, leb-true, ltb-true, le-ltb, eq-eqb, ne_eqb, cond_both}
@@ -11,6 +11,8 @@ use Rattle.smil_model.specs.declared.document.Attr.TheVariants as attr
 use Rattle.smil_model.specs.declared.document.Attrs.{Attrs}
 use Rattle.smil_model.specs.declared.document.AttrName.{AttrName}
 use Rattle.smil_model.specs.declared.document.AttrName.TheVariants as name
+use Rattle.smil_model.specs.declared.texts.TextName.{TextName}
+use Rattle.smil_model.specs.declared.texts.TextName.TheVariants as text
 use Rattle.smil_model.specs.declared.document.Item.{Item}
 use Rattle.smil_model.specs.declared.document.Item.TheVariants.{Offset, Sync, Event, Repeat, Key, Indefinite}
 use Rattle.smil_model.specs.declared.document.Dur.{Dur}
@@ -23,9 +25,11 @@ use Rattle.smil_model.specs.declared.document.Act.{Act}
 use Rattle.smil_model.specs.declared.document.Act.TheVariants as act
 use Rattle.smil_model.specs.declared.times.Time.{Time}
 use Rattle.smil_model.specs.declared.times.Time.TheVariants as time
-use Rattle.smil_model.specs.document.Document.{is_class_kind, is_set_kind}
-use Rattle.smil_model.specs.document.Words.{is_initial, is_of_name, is_of_id, is_word, is_id, is_list_word, is_event_name, is_key, is_attribute_name, is_kept_text}
-use Rattle.smil_model.specs.document.Values.{absent_or, is_clock, is_offset, is_item, is_list, is_plain_begin, is_begin, is_dur, is_bound, is_positive_bound, is_count, is_endsync_word, is_endsync, is_higher, is_lower, has_endsync, has_class_attrs, has_set_attrs, has_media_attrs, has_element_attrs, are_element_values, is_seq_parent, fit_kind}
+use Rattle.smil_model.specs.document.Document.{is_class_kind}
+use Rattle.smil_model.specs.document.Words.{is_initial, is_of_name, is_of_id, is_word, is_id, is_list_word, is_event_name, is_key}
+use Rattle.smil_model.specs.document.Values.{absent_or, is_clock, is_offset, is_item, is_list, is_plain_begin, is_begin, is_dur, is_bound, is_positive_bound, is_count, is_endsync_word, is_endsync, is_higher, is_lower, has_endsync, has_class_attrs, has_element_attrs, are_element_values, fits_text, is_seq_parent, fit_kind}
+use Rattle.smil_model.specs.document.Texts.{has_text, is_text, text_at, text_names}
+use Rattle.smil_model.proofs.TextTables.{each_text}
 use Rattle.smil_grammar.specs.Items.{IsItem}
 use Rattle.smil_grammar.specs.Lists.{is_plain, IsList}
 use Rattle.smil_grammar.specs.Values.{above_zero, id_of, attribute_name_of}
@@ -202,11 +206,13 @@ endsync_fits in_seq (endsync.Child text) h =
     let media = or_parts (bytes_eq text (codes "media")) _ all.1 in
     (text, rw (id_untrimmed text (id_word text parts.0), media.0, last.0, first.0, all.0, id_read text parts.0) refl)
 
-attribute_name_fits : (in_seq : Bool) (text : List ℕ) → is_attribute_name text ≡ true → IsAttr in_seq (attr.AttributeName text)
-attribute_name_fits in_seq text h =
+text_fits : (in_seq : Bool) (n : TextName) (text : List ℕ) → is_text n text ≡ true → IsAttr in_seq (attr.Text n text)
+text_fits in_seq text.TargetElement text h = (text, rw (id_untrimmed text (id_word text h), id_read text h) refl)
+text_fits in_seq text.AttributeName text h =
     let known : attribute_name_of text ≡ Some text = rw h refl in
     let whole = subst (λ (o : Option (List ℕ)). IfSome o IsWholeName) known (attribute_name_whole text) in
     (text, rw (whole.1, h) refl)
+text_fits in_seq _ text h = (text, rw h refl)
 
 -- ---- attributes that are there
 
@@ -228,13 +234,7 @@ IsInRange in_seq (attr.Endsync e) = is_endsync e ≡ true
 IsInRange in_seq (attr.Peers a) = Unit {0}
 IsInRange in_seq (attr.Higher a) = is_higher a ≡ true
 IsInRange in_seq (attr.Lower a) = is_lower a ≡ true
-IsInRange in_seq (attr.Src text) = is_kept_text text ≡ true
-IsInRange in_seq (attr.Region text) = is_kept_text text ≡ true
-IsInRange in_seq (attr.Alt text) = is_kept_text text ≡ true
-IsInRange in_seq (attr.Title text) = is_kept_text text ≡ true
-IsInRange in_seq (attr.TargetElement text) = is_id text ≡ true
-IsInRange in_seq (attr.AttributeName text) = is_attribute_name text ≡ true
-IsInRange in_seq (attr.To text) = is_kept_text text ≡ true
+IsInRange in_seq (attr.Text n text) = is_text n text ≡ true
 
 pub is_attr : (in_seq : Bool) (given : Attr) → IsInRange in_seq given → IsAttr in_seq given
 is_attr in_seq (attr.Id text) h = (text, rw (id_read text h) refl)
@@ -253,13 +253,7 @@ is_attr in_seq (attr.Endsync e) h = endsync_fits in_seq e h
 is_attr in_seq (attr.Peers a) h = again_fits in_seq (attr.Peers a) (act_spelled in_seq a).0
 is_attr in_seq (attr.Higher a) h = higher_fits in_seq a h
 is_attr in_seq (attr.Lower a) h = lower_fits in_seq a h
-is_attr in_seq (attr.Src text) h = (text, rw h refl)
-is_attr in_seq (attr.Region text) h = (text, rw h refl)
-is_attr in_seq (attr.Alt text) h = (text, rw h refl)
-is_attr in_seq (attr.Title text) h = (text, rw h refl)
-is_attr in_seq (attr.TargetElement text) h = (text, rw (id_untrimmed text (id_word text h), id_read text h) refl)
-is_attr in_seq (attr.AttributeName text) h = attribute_name_fits in_seq text h
-is_attr in_seq (attr.To text) h = (text, rw h refl)
+is_attr in_seq (attr.Text n text) h = text_fits in_seq n text h
 
 abbrev Fits : Bool → Bool → Option Attr → Type 0
 Fits in_seq had o = IfSome o (λ given. IsTrue had × IsInRange in_seq given)
@@ -280,6 +274,14 @@ absent : {A : Type 0} (made : A → Attr) (in_seq had : Bool) (o : Option A) →
 absent made in_seq had None h = tt
 absent made in_seq had (Some x) h = absurd cc
 
+-- its plain texts
+abbrev AreTexts : Bool → Kind → Attrs → Type 0
+AreTexts in_seq k attrs = (n : TextName) → Fits in_seq (has_text k n) (attr_at attrs (name.Text n))
+
+text_there : (in_seq : Bool) (k : Kind) (n : TextName) (o : Option (List ℕ)) → absent_or (λ text. has_text k n && is_text n text) o ≡ true → Fits in_seq (has_text k n) (option_map (attr.Text n) o)
+text_there in_seq k n None h = tt
+text_there in_seq k n (Some text) h = let parts = and_parts (has_text k n) (is_text n text) h in (parts.0, parts.1)
+
 -- a priorityClass
 
 record Bare (attrs : Attrs) : Type 0 where
@@ -295,24 +297,10 @@ record Bare (attrs : Attrs) : Type 0 where
   restart_default : is_some attrs.restart_default ≡ false
   fill_default : is_some attrs.fill_default ≡ false
   endsync : is_some attrs.endsync ≡ false
-  src : is_some attrs.src ≡ false
-  region : is_some attrs.region ≡ false
-  alt : is_some attrs.alt ≡ false
-  title : is_some attrs.title ≡ false
-  target_element : is_some attrs.target_element ≡ false
-  attribute_name : is_some attrs.attribute_name ≡ false
-  to : is_some attrs.to ≡ false
 
 bare : (attrs : Attrs) → has_element_attrs attrs ≡ false → Bare attrs
 bare attrs h =
-    let p_set = or_parts _ (has_set_attrs attrs) h in
-    let p_to = or_parts _ (is_some attrs.to) p_set.1 in
-    let p_target = or_parts (is_some attrs.target_element) (is_some attrs.attribute_name) p_to.0 in
-    let p_title = or_parts _ (is_some attrs.title) p_set.0 in
-    let p_media = or_parts _ (has_media_attrs attrs) p_title.0 in
-    let p_alt = or_parts _ (is_some attrs.alt) p_media.1 in
-    let p_src = or_parts (is_some attrs.src) (is_some attrs.region) p_alt.0 in
-    let p_endsync = or_parts _ (is_some attrs.endsync) p_media.0 in
+    let p_endsync = or_parts _ (is_some attrs.endsync) h in
     let p_fill_default = or_parts _ (is_some attrs.fill_default) p_endsync.0 in
     let p_restart_default = or_parts _ (is_some attrs.restart_default) p_fill_default.0 in
     let p_fill = or_parts _ (is_some attrs.fill) p_restart_default.0 in
@@ -323,32 +311,26 @@ bare attrs h =
     let p_min = or_parts _ (is_some attrs.min) p_max.0 in
     let p_end_list = or_parts _ (is_some attrs.«end») p_min.0 in
     let p_dur = or_parts _ (is_some attrs.dur) p_end_list.0 in
-    record { begin = p_dur.0; dur = p_dur.1; end_list = p_end_list.1; min = p_min.1; max = p_max.1; repeat_count = p_repeat_count.1; repeat_dur = p_repeat_dur.1; restart = p_restart.1; fill = p_fill.1; restart_default = p_restart_default.1; fill_default = p_fill_default.1; endsync = p_endsync.1; src = p_src.0; region = p_src.1; alt = p_alt.1; title = p_title.1; target_element = p_target.0; attribute_name = p_target.1; to = p_to.1 }
+    record { begin = p_dur.0; dur = p_dur.1; end_list = p_end_list.1; min = p_min.1; max = p_max.1; repeat_count = p_repeat_count.1; repeat_dur = p_repeat_dur.1; restart = p_restart.1; fill = p_fill.1; restart_default = p_restart_default.1; fill_default = p_fill_default.1; endsync = p_endsync.1 }
 
-class_fits : (in_seq : Bool) (k : Kind) (attrs : Attrs) → is_class_kind k ≡ true → absent_or is_id attrs.id ≡ true → Bare attrs → absent_or is_higher attrs.higher ≡ true → absent_or is_lower attrs.lower ≡ true → AreInRange in_seq k attrs
-class_fits in_seq k attrs class id none higher lower name.Id = present attr.Id is_id in_seq true (λ x h. h) attrs.id id (λ e. refl)
-class_fits in_seq k attrs class id none higher lower name.Begin = absent attr.Begin in_seq (not (is_class_kind k)) attrs.begin none.begin
-class_fits in_seq k attrs class id none higher lower name.Dur = absent attr.Dur in_seq (not (is_class_kind k)) attrs.dur none.dur
-class_fits in_seq k attrs class id none higher lower name.End = absent attr.End in_seq (not (is_class_kind k)) attrs.«end» none.end_list
-class_fits in_seq k attrs class id none higher lower name.Min = absent attr.Min in_seq (not (is_class_kind k)) attrs.min none.min
-class_fits in_seq k attrs class id none higher lower name.Max = absent attr.Max in_seq (not (is_class_kind k)) attrs.max none.max
-class_fits in_seq k attrs class id none higher lower name.RepeatCount = absent attr.RepeatCount in_seq (not (is_class_kind k)) attrs.repeat_count none.repeat_count
-class_fits in_seq k attrs class id none higher lower name.RepeatDur = absent attr.RepeatDur in_seq (not (is_class_kind k)) attrs.repeat_dur none.repeat_dur
-class_fits in_seq k attrs class id none higher lower name.Restart = absent attr.Restart in_seq (not (is_class_kind k)) attrs.restart none.restart
-class_fits in_seq k attrs class id none higher lower name.Fill = absent attr.Fill in_seq (not (is_class_kind k)) attrs.fill none.fill
-class_fits in_seq k attrs class id none higher lower name.RestartDefault = absent attr.RestartDefault in_seq (not (is_class_kind k)) attrs.restart_default none.restart_default
-class_fits in_seq k attrs class id none higher lower name.FillDefault = absent attr.FillDefault in_seq (not (is_class_kind k)) attrs.fill_default none.fill_default
-class_fits in_seq k attrs class id none higher lower name.Endsync = absent attr.Endsync in_seq (has_endsync k) attrs.endsync none.endsync
-class_fits in_seq k attrs class id none higher lower name.Src = absent attr.Src in_seq (not (is_class_kind k) && not (is_set_kind k)) attrs.src none.src
-class_fits in_seq k attrs class id none higher lower name.Region = absent attr.Region in_seq (not (is_class_kind k) && not (is_set_kind k)) attrs.region none.region
-class_fits in_seq k attrs class id none higher lower name.Alt = absent attr.Alt in_seq (not (is_class_kind k) && not (is_set_kind k)) attrs.alt none.alt
-class_fits in_seq k attrs class id none higher lower name.Title = absent attr.Title in_seq (not (is_class_kind k)) attrs.title none.title
-class_fits in_seq k attrs class id none higher lower name.TargetElement = absent attr.TargetElement in_seq (is_set_kind k) attrs.target_element none.target_element
-class_fits in_seq k attrs class id none higher lower name.AttributeName = absent attr.AttributeName in_seq (is_set_kind k) attrs.attribute_name none.attribute_name
-class_fits in_seq k attrs class id none higher lower name.To = absent attr.To in_seq (is_set_kind k) attrs.to none.to
-class_fits in_seq k attrs class id none higher lower name.Peers = anything attr.Peers in_seq (is_class_kind k) (λ x. tt) attrs.peers class
-class_fits in_seq k attrs class id none higher lower name.Higher = present attr.Higher is_higher in_seq (is_class_kind k) (λ x h. h) attrs.higher higher (λ e. class)
-class_fits in_seq k attrs class id none higher lower name.Lower = present attr.Lower is_lower in_seq (is_class_kind k) (λ x h. h) attrs.lower lower (λ e. class)
+class_fits : (in_seq : Bool) (k : Kind) (attrs : Attrs) → is_class_kind k ≡ true → absent_or is_id attrs.id ≡ true → Bare attrs → absent_or is_higher attrs.higher ≡ true → absent_or is_lower attrs.lower ≡ true → AreTexts in_seq k attrs → AreInRange in_seq k attrs
+class_fits in_seq k attrs class id none higher lower texts name.Id = present attr.Id is_id in_seq true (λ x h. h) attrs.id id (λ e. refl)
+class_fits in_seq k attrs class id none higher lower texts name.Begin = absent attr.Begin in_seq (not (is_class_kind k)) attrs.begin none.begin
+class_fits in_seq k attrs class id none higher lower texts name.Dur = absent attr.Dur in_seq (not (is_class_kind k)) attrs.dur none.dur
+class_fits in_seq k attrs class id none higher lower texts name.End = absent attr.End in_seq (not (is_class_kind k)) attrs.«end» none.end_list
+class_fits in_seq k attrs class id none higher lower texts name.Min = absent attr.Min in_seq (not (is_class_kind k)) attrs.min none.min
+class_fits in_seq k attrs class id none higher lower texts name.Max = absent attr.Max in_seq (not (is_class_kind k)) attrs.max none.max
+class_fits in_seq k attrs class id none higher lower texts name.RepeatCount = absent attr.RepeatCount in_seq (not (is_class_kind k)) attrs.repeat_count none.repeat_count
+class_fits in_seq k attrs class id none higher lower texts name.RepeatDur = absent attr.RepeatDur in_seq (not (is_class_kind k)) attrs.repeat_dur none.repeat_dur
+class_fits in_seq k attrs class id none higher lower texts name.Restart = absent attr.Restart in_seq (not (is_class_kind k)) attrs.restart none.restart
+class_fits in_seq k attrs class id none higher lower texts name.Fill = absent attr.Fill in_seq (not (is_class_kind k)) attrs.fill none.fill
+class_fits in_seq k attrs class id none higher lower texts name.RestartDefault = absent attr.RestartDefault in_seq (not (is_class_kind k)) attrs.restart_default none.restart_default
+class_fits in_seq k attrs class id none higher lower texts name.FillDefault = absent attr.FillDefault in_seq (not (is_class_kind k)) attrs.fill_default none.fill_default
+class_fits in_seq k attrs class id none higher lower texts name.Endsync = absent attr.Endsync in_seq (has_endsync k) attrs.endsync none.endsync
+class_fits in_seq k attrs class id none higher lower texts (name.Text n) = texts n
+class_fits in_seq k attrs class id none higher lower texts name.Peers = anything attr.Peers in_seq (is_class_kind k) (λ x. tt) attrs.peers class
+class_fits in_seq k attrs class id none higher lower texts name.Higher = present attr.Higher is_higher in_seq (is_class_kind k) (λ x h. h) attrs.higher higher (λ e. class)
+class_fits in_seq k attrs class id none higher lower texts name.Lower = present attr.Lower is_lower in_seq (is_class_kind k) (λ x h. h) attrs.lower lower (λ e. class)
 
 -- an element
 
@@ -361,31 +343,17 @@ record HasValues (in_seq : Bool) (attrs : Attrs) : Type 0 where
   repeat_count : absent_or is_count attrs.repeat_count ≡ true
   repeat_dur : absent_or is_positive_bound attrs.repeat_dur ≡ true
   endsync : absent_or is_endsync attrs.endsync ≡ true
-  src : absent_or is_kept_text attrs.src ≡ true
-  region : absent_or is_kept_text attrs.region ≡ true
-  alt : absent_or is_kept_text attrs.alt ≡ true
-  title : absent_or is_kept_text attrs.title ≡ true
-  target_element : absent_or is_id attrs.target_element ≡ true
-  attribute_name : absent_or is_attribute_name attrs.attribute_name ≡ true
-  to : absent_or is_kept_text attrs.to ≡ true
 
 valued : (in_seq : Bool) (attrs : Attrs) → are_element_values in_seq attrs ≡ true → HasValues in_seq attrs
 valued in_seq attrs h =
-    let p_to = and_parts _ (absent_or is_kept_text attrs.to) h in
-    let p_name = and_parts _ (absent_or is_attribute_name attrs.attribute_name) p_to.0 in
-    let p_target = and_parts _ (absent_or is_id attrs.target_element) p_name.0 in
-    let p_title = and_parts _ (absent_or is_kept_text attrs.title) p_target.0 in
-    let p_alt = and_parts _ (absent_or is_kept_text attrs.alt) p_title.0 in
-    let p_region = and_parts _ (absent_or is_kept_text attrs.region) p_alt.0 in
-    let p_src = and_parts _ (absent_or is_kept_text attrs.src) p_region.0 in
-    let p_endsync = and_parts _ (absent_or is_endsync attrs.endsync) p_src.0 in
+    let p_endsync = and_parts _ (absent_or is_endsync attrs.endsync) h in
     let p_repeat_dur = and_parts _ (absent_or is_positive_bound attrs.repeat_dur) p_endsync.0 in
     let p_repeat_count = and_parts _ (absent_or is_count attrs.repeat_count) p_repeat_dur.0 in
     let p_max = and_parts _ (absent_or is_bound attrs.max) p_repeat_count.0 in
     let p_min = and_parts _ (absent_or is_clock attrs.min) p_max.0 in
     let p_end_list = and_parts _ (absent_or is_list attrs.«end») p_min.0 in
     let p_dur = and_parts _ (absent_or is_dur attrs.dur) p_end_list.0 in
-    record { begin = p_dur.0; dur = p_dur.1; end_list = p_end_list.1; min = p_min.1; max = p_max.1; repeat_count = p_repeat_count.1; repeat_dur = p_repeat_dur.1; endsync = p_endsync.1; src = p_src.1; region = p_region.1; alt = p_alt.1; title = p_title.1; target_element = p_target.1; attribute_name = p_name.1; to = p_to.1 }
+    record { begin = p_dur.0; dur = p_dur.1; end_list = p_end_list.1; min = p_min.1; max = p_max.1; repeat_count = p_repeat_count.1; repeat_dur = p_repeat_dur.1; endsync = p_endsync.1 }
 
 -- what a priorityClass alone has
 record Classless (attrs : Attrs) : Type 0 where
@@ -404,74 +372,42 @@ had_endsync true there h e = refl
 had_endsync false true h e = absurd cc
 had_endsync false false h e = absurd cc
 
--- a set has no media, and what a set has no other element has
-record IsParted (k : Kind) (attrs : Attrs) : Type 0 where
-  src : is_some attrs.src ≡ true → (not (is_class_kind k) && not (is_set_kind k)) ≡ true
-  region : is_some attrs.region ≡ true → (not (is_class_kind k) && not (is_set_kind k)) ≡ true
-  alt : is_some attrs.alt ≡ true → (not (is_class_kind k) && not (is_set_kind k)) ≡ true
-  target_element : is_some attrs.target_element ≡ true → is_set_kind k ≡ true
-  attribute_name : is_some attrs.attribute_name ≡ true → is_set_kind k ≡ true
-  to : is_some attrs.to ≡ true → is_set_kind k ≡ true
-
-never : {P : Type 0} (t : Bool) → t ≡ false → t ≡ true → P
-never true f e = absurd cc
-never false f e = absurd cc
-
-parted : (k : Kind) (attrs : Attrs) → is_class_kind k ≡ false → not (cond (is_set_kind k) (has_media_attrs attrs) (has_set_attrs attrs)) ≡ true → IsParted k attrs
-parted k attrs class h =
-    cond_both (is_set_kind k) (has_media_attrs attrs) (has_set_attrs attrs) (λ t. not t ≡ true → IsParted k attrs)
-    (λ set e.
-    let p_alt = or_parts _ (is_some attrs.alt) (not-true _ e) in
-    let p_src = or_parts (is_some attrs.src) (is_some attrs.region) p_alt.0 in
-    record { src = never _ p_src.0; region = never _ p_src.1; alt = never _ p_alt.1; target_element = λ t. set; attribute_name = λ t. set; to = λ t. set })
-    (λ set e.
-    let p_to = or_parts _ (is_some attrs.to) (not-true _ e) in
-    let p_target = or_parts (is_some attrs.target_element) (is_some attrs.attribute_name) p_to.0 in
-    let media : (not (is_class_kind k) && not (is_set_kind k)) ≡ true = rw (class, set) refl in
-    record { src = λ t. media; region = λ t. media; alt = λ t. media; target_element = never _ p_target.0; attribute_name = never _ p_target.1; to = never _ p_to.1 })
-    h
-
-element_fits : (in_seq : Bool) (k : Kind) (attrs : Attrs) → is_class_kind k ≡ false → absent_or is_id attrs.id ≡ true → Classless attrs → HasValues in_seq attrs → (has_endsync k || not (is_some attrs.endsync)) ≡ true → IsParted k attrs → AreInRange in_seq k attrs
-element_fits in_seq k attrs class id none values endsync apart name.Id = present attr.Id is_id in_seq true (λ x h. h) attrs.id id (λ e. refl)
-element_fits in_seq k attrs class id none values endsync apart name.Begin = present attr.Begin (is_begin in_seq) in_seq (not (is_class_kind k)) (λ x h. h) attrs.begin values.begin (λ e. not_from_false _ class)
-element_fits in_seq k attrs class id none values endsync apart name.Dur = present attr.Dur is_dur in_seq (not (is_class_kind k)) (λ x h. h) attrs.dur values.dur (λ e. not_from_false _ class)
-element_fits in_seq k attrs class id none values endsync apart name.End = present attr.End is_list in_seq (not (is_class_kind k)) (λ x h. h) attrs.«end» values.end_list (λ e. not_from_false _ class)
-element_fits in_seq k attrs class id none values endsync apart name.Min = present attr.Min is_clock in_seq (not (is_class_kind k)) (λ x h. h) attrs.min values.min (λ e. not_from_false _ class)
-element_fits in_seq k attrs class id none values endsync apart name.Max = present attr.Max is_bound in_seq (not (is_class_kind k)) (λ x h. h) attrs.max values.max (λ e. not_from_false _ class)
-element_fits in_seq k attrs class id none values endsync apart name.RepeatCount = present attr.RepeatCount is_count in_seq (not (is_class_kind k)) (λ x h. h) attrs.repeat_count values.repeat_count (λ e. not_from_false _ class)
-element_fits in_seq k attrs class id none values endsync apart name.RepeatDur = present attr.RepeatDur is_positive_bound in_seq (not (is_class_kind k)) (λ x h. h) attrs.repeat_dur values.repeat_dur (λ e. not_from_false _ class)
-element_fits in_seq k attrs class id none values endsync apart name.Endsync = present attr.Endsync is_endsync in_seq (has_endsync k) (λ x h. h) attrs.endsync values.endsync (had_endsync (has_endsync k) (is_some attrs.endsync) endsync)
-element_fits in_seq k attrs class id none values endsync apart name.Src = present attr.Src is_kept_text in_seq (not (is_class_kind k) && not (is_set_kind k)) (λ x h. h) attrs.src values.src apart.src
-element_fits in_seq k attrs class id none values endsync apart name.Region = present attr.Region is_kept_text in_seq (not (is_class_kind k) && not (is_set_kind k)) (λ x h. h) attrs.region values.region apart.region
-element_fits in_seq k attrs class id none values endsync apart name.Alt = present attr.Alt is_kept_text in_seq (not (is_class_kind k) && not (is_set_kind k)) (λ x h. h) attrs.alt values.alt apart.alt
-element_fits in_seq k attrs class id none values endsync apart name.Title = present attr.Title is_kept_text in_seq (not (is_class_kind k)) (λ x h. h) attrs.title values.title (λ e. not_from_false _ class)
-element_fits in_seq k attrs class id none values endsync apart name.Restart = anything attr.Restart in_seq (not (is_class_kind k)) (λ x. tt) attrs.restart (not_from_false _ class)
-element_fits in_seq k attrs class id none values endsync apart name.Fill = anything attr.Fill in_seq (not (is_class_kind k)) (λ x. tt) attrs.fill (not_from_false _ class)
-element_fits in_seq k attrs class id none values endsync apart name.RestartDefault = anything attr.RestartDefault in_seq (not (is_class_kind k)) (λ x. tt) attrs.restart_default (not_from_false _ class)
-element_fits in_seq k attrs class id none values endsync apart name.FillDefault = anything attr.FillDefault in_seq (not (is_class_kind k)) (λ x. tt) attrs.fill_default (not_from_false _ class)
-element_fits in_seq k attrs class id none values endsync apart name.TargetElement = present attr.TargetElement is_id in_seq (is_set_kind k) (λ x h. h) attrs.target_element values.target_element apart.target_element
-element_fits in_seq k attrs class id none values endsync apart name.AttributeName = present attr.AttributeName is_attribute_name in_seq (is_set_kind k) (λ x h. h) attrs.attribute_name values.attribute_name apart.attribute_name
-element_fits in_seq k attrs class id none values endsync apart name.To = present attr.To is_kept_text in_seq (is_set_kind k) (λ x h. h) attrs.to values.to apart.to
-element_fits in_seq k attrs class id none values endsync apart name.Peers = absent attr.Peers in_seq (is_class_kind k) attrs.peers none.peers
-element_fits in_seq k attrs class id none values endsync apart name.Higher = absent attr.Higher in_seq (is_class_kind k) attrs.higher none.higher
-element_fits in_seq k attrs class id none values endsync apart name.Lower = absent attr.Lower in_seq (is_class_kind k) attrs.lower none.lower
+element_fits : (in_seq : Bool) (k : Kind) (attrs : Attrs) → is_class_kind k ≡ false → absent_or is_id attrs.id ≡ true → Classless attrs → HasValues in_seq attrs → (has_endsync k || not (is_some attrs.endsync)) ≡ true → AreTexts in_seq k attrs → AreInRange in_seq k attrs
+element_fits in_seq k attrs class id none values endsync texts name.Id = present attr.Id is_id in_seq true (λ x h. h) attrs.id id (λ e. refl)
+element_fits in_seq k attrs class id none values endsync texts name.Begin = present attr.Begin (is_begin in_seq) in_seq (not (is_class_kind k)) (λ x h. h) attrs.begin values.begin (λ e. not_from_false _ class)
+element_fits in_seq k attrs class id none values endsync texts name.Dur = present attr.Dur is_dur in_seq (not (is_class_kind k)) (λ x h. h) attrs.dur values.dur (λ e. not_from_false _ class)
+element_fits in_seq k attrs class id none values endsync texts name.End = present attr.End is_list in_seq (not (is_class_kind k)) (λ x h. h) attrs.«end» values.end_list (λ e. not_from_false _ class)
+element_fits in_seq k attrs class id none values endsync texts name.Min = present attr.Min is_clock in_seq (not (is_class_kind k)) (λ x h. h) attrs.min values.min (λ e. not_from_false _ class)
+element_fits in_seq k attrs class id none values endsync texts name.Max = present attr.Max is_bound in_seq (not (is_class_kind k)) (λ x h. h) attrs.max values.max (λ e. not_from_false _ class)
+element_fits in_seq k attrs class id none values endsync texts name.RepeatCount = present attr.RepeatCount is_count in_seq (not (is_class_kind k)) (λ x h. h) attrs.repeat_count values.repeat_count (λ e. not_from_false _ class)
+element_fits in_seq k attrs class id none values endsync texts name.RepeatDur = present attr.RepeatDur is_positive_bound in_seq (not (is_class_kind k)) (λ x h. h) attrs.repeat_dur values.repeat_dur (λ e. not_from_false _ class)
+element_fits in_seq k attrs class id none values endsync texts name.Endsync = present attr.Endsync is_endsync in_seq (has_endsync k) (λ x h. h) attrs.endsync values.endsync (had_endsync (has_endsync k) (is_some attrs.endsync) endsync)
+element_fits in_seq k attrs class id none values endsync texts name.Restart = anything attr.Restart in_seq (not (is_class_kind k)) (λ x. tt) attrs.restart (not_from_false _ class)
+element_fits in_seq k attrs class id none values endsync texts name.Fill = anything attr.Fill in_seq (not (is_class_kind k)) (λ x. tt) attrs.fill (not_from_false _ class)
+element_fits in_seq k attrs class id none values endsync texts name.RestartDefault = anything attr.RestartDefault in_seq (not (is_class_kind k)) (λ x. tt) attrs.restart_default (not_from_false _ class)
+element_fits in_seq k attrs class id none values endsync texts name.FillDefault = anything attr.FillDefault in_seq (not (is_class_kind k)) (λ x. tt) attrs.fill_default (not_from_false _ class)
+element_fits in_seq k attrs class id none values endsync texts (name.Text n) = texts n
+element_fits in_seq k attrs class id none values endsync texts name.Peers = absent attr.Peers in_seq (is_class_kind k) attrs.peers none.peers
+element_fits in_seq k attrs class id none values endsync texts name.Higher = absent attr.Higher in_seq (is_class_kind k) attrs.higher none.higher
+element_fits in_seq k attrs class id none values endsync texts name.Lower = absent attr.Lower in_seq (is_class_kind k) attrs.lower none.lower
 
 -- both
 
 pub in_range : (k : Kind) (parent : Option Kind) (attrs : Attrs) → fit_kind k parent attrs ≡ true → AreInRange (is_seq_parent parent) k attrs
 in_range k parent attrs h =
-    let parts = and_parts (absent_or is_id attrs.id) _ h in
-    cond_both (is_class_kind k) (not (has_element_attrs attrs) && absent_or is_higher attrs.higher && absent_or is_lower attrs.lower) (not (has_class_attrs attrs) && are_element_values (is_seq_parent parent) attrs && (has_endsync k || not (is_some attrs.endsync)) && not (cond (is_set_kind k) (has_media_attrs attrs) (has_set_attrs attrs)))
+    let parts = and_parts (absent_or is_id attrs.id && list_all (fits_text k attrs.texts) text_names) _ h in
+    let front = and_parts (absent_or is_id attrs.id) (list_all (fits_text k attrs.texts) text_names) parts.0 in
+    let texts : AreTexts (is_seq_parent parent) k attrs = λ n. text_there (is_seq_parent parent) k n (text_at attrs.texts n) (each_text (fits_text k attrs.texts) front.1 n) in
+    cond_both (is_class_kind k) (not (has_element_attrs attrs) && absent_or is_higher attrs.higher && absent_or is_lower attrs.lower) (not (has_class_attrs attrs) && are_element_values (is_seq_parent parent) attrs && (has_endsync k || not (is_some attrs.endsync)))
     (λ t. t ≡ true → AreInRange (is_seq_parent parent) k attrs)
     (λ class e.
     let last = and_parts _ (absent_or is_lower attrs.lower) e in
     let first = and_parts (not (has_element_attrs attrs)) (absent_or is_higher attrs.higher) last.0 in
-    class_fits (is_seq_parent parent) k attrs class parts.0 (bare attrs (not-true _ first.0)) first.1 last.1)
+    class_fits (is_seq_parent parent) k attrs class front.0 (bare attrs (not-true _ first.0)) first.1 last.1 texts)
     (λ class e.
-    let whole = and_parts _ (not (cond (is_set_kind k) (has_media_attrs attrs) (has_set_attrs attrs))) e in
-    let last = and_parts _ (has_endsync k || not (is_some attrs.endsync)) whole.0 in
+    let last = and_parts _ (has_endsync k || not (is_some attrs.endsync)) e in
     let first = and_parts (not (has_class_attrs attrs)) (are_element_values (is_seq_parent parent) attrs) last.0 in
-    element_fits (is_seq_parent parent) k attrs class parts.0 (classless attrs (not-true _ first.0)) (valued (is_seq_parent parent) attrs first.1) last.1 (parted k attrs class whole.1))
+    element_fits (is_seq_parent parent) k attrs class front.0 (classless attrs (not-true _ first.0)) (valued (is_seq_parent parent) attrs first.1) last.1 texts)
     parts.1
 
 -- all of them can be read

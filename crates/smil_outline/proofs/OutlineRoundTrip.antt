@@ -15,7 +15,8 @@ use Rattle.smil_model.specs.declared.document.Attrs.{Attrs}
 use Rattle.smil_model.specs.declared.order.Refusal.{Refusal}
 use Rattle.smil_model.specs.document.Document.{Document, is_class_kind, has_id, node_at as node_with}
 use Rattle.smil_model.specs.document.Words.{is_id}
-use Rattle.smil_model.specs.document.Values.{absent_or, is_seq_parent}
+use Rattle.smil_model.specs.document.Texts.{text_names}
+use Rattle.smil_model.specs.document.Values.{absent_or, fits_text, is_seq_parent}
 use Rattle.smil_model.specs.document.Valid.{open_from, IsDistinct, IsTree, IsValid, depth_of, kind_of, may_stand, same_test, agree_with, is_well_placed, has_fitting_attrs, is_other_with, is_id_taken, references_among, references_of, references as all_references}
 use Rattle.smil_grammar.specs.Results.{◌>>=◌}
 use Rattle.smil_grammar.specs.Spellings.{node_text, saved_node_text, header_text}
@@ -360,7 +361,9 @@ room : (number : ℕ → ℕ) (document : Document) → IsValid document → (be
     → IsBelow number document.nodes (map (new number) (reverse before)) n above → IsRoom (map (new number) (reverse before)) above n.kind n.attrs
 room number document valid before n rest above all is under =
     let nodes = document.nodes in
-    let id : absent_or is_id n.attrs.id ≡ true = (and_parts (absent_or is_id n.attrs.id) _ is.fit).0 in
+    let named = absent_or is_id n.attrs.id in
+    let texts = list_all (fits_text n.kind n.attrs.texts) text_names in
+    let id : absent_or is_id n.attrs.id ≡ true = (and_parts named texts (and_parts (named && texts) _ is.fit).0).0 in
     let free : is_id_taken (reverse before ++ n ∷ rest) n.serial n.attrs.id ≡ false = subst (λ (xs : List Node). is_id_taken xs n.serial n.attrs.id ≡ false) all is.free in
     let few : all_references nodes ≤ 32000 = valid.references in
     let sum : all_references nodes ≡ all_references (reverse before ++ n ∷ rest) = ap all_references all in

@@ -1,8 +1,8 @@
 -- What some text is read as fits the kinds of a node and its parent.
-use Rattle.std.proofs.Common.{◌≡◌, ℕ, suc, ◌<◌, ◌≤◌, Bool, true, false, not, cond, eqb, ltb, leb, ◌&&◌, ◌||◌, List, [], ◌∷◌, length, Option, Some, None, option_map, is_some, Ok, refl, subst, arith}
+use Rattle.std.proofs.Common.{◌≡◌, ℕ, suc, ◌<◌, ◌≤◌, Bool, true, false, not, eqb, ltb, leb, ◌&&◌, ◌||◌, List, [], ◌∷◌, length, Option, Some, None, option_map, is_some, Ok, refl, subst, arith}
 use Rattle.std.specs.Prelude.{ℤ, pos, negsuc, codes, bytes_eq, IfOk, IfSome, IsTrue}
 use Rattle.std.specs.List.{AllByRecursion, list_all}
-use Rattle.std.proofs.lemmas.Bool.{not_from_true, not-true, le-leb, lt-ltb, cond_both}
+use Rattle.std.proofs.lemmas.Bool.{and_from, not_from_true, not-true, le-leb, lt-ltb, cond_both}
 use Rattle.std.proofs.lemmas.Bool.Decides.{nat_tests}
 use Rattle.std.proofs.lemmas.List.Elements.{recursion_from_All}
 use Rattle.smil_model.specs.declared.document.Kind.{Kind}
@@ -11,6 +11,8 @@ use Rattle.smil_model.specs.declared.document.Attr.TheVariants as attr
 use Rattle.smil_model.specs.declared.document.Attrs.{Attrs}
 use Rattle.smil_model.specs.declared.document.AttrName.{AttrName}
 use Rattle.smil_model.specs.declared.document.AttrName.TheVariants as name
+use Rattle.smil_model.specs.declared.texts.TextName.{TextName}
+use Rattle.smil_model.specs.declared.texts.TextName.TheVariants as text
 use Rattle.smil_model.specs.declared.document.Item.{Item}
 use Rattle.smil_model.specs.declared.document.Item.TheVariants.{Offset, Sync, Event, Repeat, Key, Indefinite}
 use Rattle.smil_model.specs.declared.document.Dur.{Dur}
@@ -21,15 +23,17 @@ use Rattle.smil_model.specs.declared.document.Endsync.TheVariants as endsync
 use Rattle.smil_model.specs.declared.document.Act.{Act}
 use Rattle.smil_model.specs.declared.times.Time.{Time}
 use Rattle.smil_model.specs.declared.times.Time.TheVariants as time
-use Rattle.smil_model.specs.document.Document.{is_class_kind, is_set_kind}
+use Rattle.smil_model.specs.document.Document.{is_class_kind}
 use Rattle.smil_model.specs.document.Edits.{with_attr}
 use Rattle.smil_model.specs.document.Words.{is_of_name, is_of_id, is_word, is_id, is_event_name, is_attribute_name, is_kept_text}
-use Rattle.smil_model.specs.document.Values.{absent_or, is_clock, is_offset, is_item, is_list, is_plain_begin, is_begin, is_dur, is_bound, is_positive_bound, is_count, is_endsync, is_higher, is_lower, has_endsync, has_class_attrs, has_set_attrs, has_media_attrs, has_element_attrs, are_element_values, is_seq_parent, fit_kind}
+use Rattle.smil_model.specs.document.Values.{absent_or, is_clock, is_offset, is_item, is_list, is_plain_begin, is_begin, is_dur, is_bound, is_positive_bound, is_count, is_endsync, is_higher, is_lower, has_endsync, has_class_attrs, has_element_attrs, are_element_values, fits_text, is_seq_parent, fit_kind}
+use Rattle.smil_model.specs.document.Texts.{has_text, is_text, text_at, text_names}
+use Rattle.smil_model.proofs.TextTables.{all_texts}
 use Rattle.smil_grammar.specs.Texts.{trim}
 use Rattle.smil_grammar.specs.Clock.{clock_within}
 use Rattle.smil_grammar.specs.Items.{IsItem}
 use Rattle.smil_grammar.specs.Lists.{is_plain, list_of, IsList}
-use Rattle.smil_grammar.specs.Values.{above_zero, id_of, attribute_name_of, restart_default_of, fill_default_of, kept_of, dur_of, time_of, repeat_dur_of, repeat_count_of, restart_of, fill_of, endsync_of, peers_of, higher_of, lower_of, is_other_value, plain_value_of}
+use Rattle.smil_grammar.specs.Values.{above_zero, id_of, attribute_name_of, restart_default_of, fill_default_of, kept_of, dur_of, time_of, repeat_dur_of, repeat_count_of, restart_of, fill_of, endsync_of, peers_of, higher_of, lower_of, text_of, is_other_value, plain_value_of}
 use Rattle.smil_grammar.specs.Allowed.{IsAttr, IsAttrs}
 use Rattle.smil_grammar.specs.Nodes.{attribute_of}
 use Rattle.smil_lexis.proofs.TestedFronts.{tests_pass}
@@ -71,6 +75,11 @@ IsName text = is_attribute_name text ≡ true
 
 attribute_name_ranged : (text : List ℕ) → IfSome (attribute_name_of text) IsName
 attribute_name_ranged text = own_where IsName _ text (λ e. e)
+
+text_ranged : (n : TextName) (text : List ℕ) → IfSome (text_of n text) (λ t. is_text n t ≡ true)
+text_ranged text.TargetElement text = id_ranged (trim text)
+text_ranged text.AttributeName text = attribute_name_ranged (trim text)
+text_ranged _ text = kept_ranged text
 
 -- lists
 
@@ -212,13 +221,7 @@ any in_seq name.Endsync text e = value attr.Endsync EndsyncIs (IsInRange in_seq)
 any in_seq name.Peers text e = any_value attr.Peers (IsInRange in_seq) (λ x. tt) (peers_of (trim text))
 any in_seq name.Higher text e = value attr.Higher HigherIs (IsInRange in_seq) (λ x h. h) (higher_of (trim text)) (higher_ranged (trim text))
 any in_seq name.Lower text e = value attr.Lower LowerIs (IsInRange in_seq) (λ x h. h) (lower_of (trim text)) (lower_ranged (trim text))
-any in_seq name.Src text e = value attr.Src IsKept (IsInRange in_seq) (λ x h. h) (kept_of text) (kept_ranged text)
-any in_seq name.Region text e = value attr.Region IsKept (IsInRange in_seq) (λ x h. h) (kept_of text) (kept_ranged text)
-any in_seq name.Alt text e = value attr.Alt IsKept (IsInRange in_seq) (λ x h. h) (kept_of text) (kept_ranged text)
-any in_seq name.Title text e = value attr.Title IsKept (IsInRange in_seq) (λ x h. h) (kept_of text) (kept_ranged text)
-any in_seq name.TargetElement text e = value attr.TargetElement IsId (IsInRange in_seq) (λ x h. h) (id_of (trim text)) (id_ranged (trim text))
-any in_seq name.AttributeName text e = value attr.AttributeName IsName (IsInRange in_seq) (λ x h. h) (attribute_name_of (trim text)) (attribute_name_ranged (trim text))
-any in_seq name.To text e = value attr.To IsKept (IsInRange in_seq) (λ x h. h) (kept_of text) (kept_ranged text)
+any in_seq (name.Text n) text e = value (attr.Text n) (λ t. is_text n t ≡ true) (IsInRange in_seq) (λ x h. h) (text_of n text) (text_ranged n text)
 
 pub attr_ranged : (in_seq : Bool) (given : Attr) → IsAttr in_seq given → IsInRange in_seq given
 attr_ranged in_seq given h = all_attrs in_seq (IsInRange in_seq) (any in_seq) given h
@@ -246,10 +249,12 @@ no_endsync k e =
     let both = not-true (is_class_kind k && has_endsync k) (each_kind (λ k. not (is_class_kind k && has_endsync k)) refl k) in
     rw e at both
 
-no_set : (k : Kind) → is_class_kind k ≡ true → is_set_kind k ≡ false
-no_set k e =
-    let both = not-true (is_class_kind k && is_set_kind k) (each_kind (λ k. not (is_class_kind k && is_set_kind k)) refl k) in
-    rw e at both
+text_in_range : (in_seq : Bool) (k : Kind) (n : TextName) (o : Option (List ℕ)) → IsHad in_seq (has_text k n) (option_map (attr.Text n) o) → absent_or (λ text. has_text k n && is_text n text) o ≡ true
+text_in_range in_seq k n None h = refl
+text_in_range in_seq k n (Some text) h = and_from (has_text k n) (is_text n text) h.0 (attr_ranged in_seq (attr.Text n text) h.1)
+
+texts_ranged : (in_seq : Bool) (k : Kind) (attrs : Attrs) → IsAttrs in_seq k attrs → list_all (fits_text k attrs.texts) text_names ≡ true
+texts_ranged in_seq k attrs h = all_texts (fits_text k attrs.texts) (λ n. text_in_range in_seq k n (text_at attrs.texts n) (h (name.Text n)))
 
 class_ranged : (in_seq : Bool) (k : Kind) (attrs : Attrs) → is_class_kind k ≡ true → IsAttrs in_seq k attrs
     → (not (has_element_attrs attrs) && absent_or is_higher attrs.higher && absent_or is_lower attrs.lower) ≡ true
@@ -264,39 +269,15 @@ class_ranged in_seq k attrs class h =
     let p_repeat_dur = gone attr.RepeatDur in_seq (not (is_class_kind k)) attrs.repeat_dur (h name.RepeatDur) other in
     let p_restart = gone attr.Restart in_seq (not (is_class_kind k)) attrs.restart (h name.Restart) other in
     let p_fill = gone attr.Fill in_seq (not (is_class_kind k)) attrs.fill (h name.Fill) other in
-    let media : (not (is_class_kind k) && not (is_set_kind k)) ≡ false = rw class refl in
-    let set = no_set k class in
     let p_restart_default = gone attr.RestartDefault in_seq (not (is_class_kind k)) attrs.restart_default (h name.RestartDefault) other in
     let p_fill_default = gone attr.FillDefault in_seq (not (is_class_kind k)) attrs.fill_default (h name.FillDefault) other in
     let p_endsync = gone attr.Endsync in_seq (has_endsync k) attrs.endsync (h name.Endsync) (no_endsync k class) in
-    let p_src = gone attr.Src in_seq (not (is_class_kind k) && not (is_set_kind k)) attrs.src (h name.Src) media in
-    let p_region = gone attr.Region in_seq (not (is_class_kind k) && not (is_set_kind k)) attrs.region (h name.Region) media in
-    let p_alt = gone attr.Alt in_seq (not (is_class_kind k) && not (is_set_kind k)) attrs.alt (h name.Alt) media in
-    let p_title = gone attr.Title in_seq (not (is_class_kind k)) attrs.title (h name.Title) other in
-    let p_target = gone attr.TargetElement in_seq (is_set_kind k) attrs.target_element (h name.TargetElement) set in
-    let p_name = gone attr.AttributeName in_seq (is_set_kind k) attrs.attribute_name (h name.AttributeName) set in
-    let p_to = gone attr.To in_seq (is_set_kind k) attrs.to (h name.To) set in
     let higher = in_range attr.Higher is_higher in_seq (is_class_kind k) (λ x r. r) attrs.higher (h name.Higher) in
     let lower = in_range attr.Lower is_lower in_seq (is_class_kind k) (λ x r. r) attrs.lower (h name.Lower) in
-    rw (p_begin, p_dur, p_end, p_min, p_max, p_repeat_count, p_repeat_dur, p_restart, p_fill, p_restart_default, p_fill_default, p_endsync, p_src, p_region, p_alt, p_title, p_target, p_name, p_to, higher, lower) refl
-
-parted : (in_seq : Bool) (k : Kind) (attrs : Attrs) → is_class_kind k ≡ false → IsAttrs in_seq k attrs → not (cond (is_set_kind k) (has_media_attrs attrs) (has_set_attrs attrs)) ≡ true
-parted in_seq k attrs class h =
-    cond_both (is_set_kind k) (has_media_attrs attrs) (has_set_attrs attrs) (λ t. not t ≡ true)
-    (λ set.
-    let other : (not (is_class_kind k) && not (is_set_kind k)) ≡ false = rw (class, set) refl in
-    let p_src = gone attr.Src in_seq (not (is_class_kind k) && not (is_set_kind k)) attrs.src (h name.Src) other in
-    let p_region = gone attr.Region in_seq (not (is_class_kind k) && not (is_set_kind k)) attrs.region (h name.Region) other in
-    let p_alt = gone attr.Alt in_seq (not (is_class_kind k) && not (is_set_kind k)) attrs.alt (h name.Alt) other in
-    rw (p_src, p_region, p_alt) refl)
-    (λ set.
-    let p_target = gone attr.TargetElement in_seq (is_set_kind k) attrs.target_element (h name.TargetElement) set in
-    let p_name = gone attr.AttributeName in_seq (is_set_kind k) attrs.attribute_name (h name.AttributeName) set in
-    let p_to = gone attr.To in_seq (is_set_kind k) attrs.to (h name.To) set in
-    rw (p_target, p_name, p_to) refl)
+    rw (p_begin, p_dur, p_end, p_min, p_max, p_repeat_count, p_repeat_dur, p_restart, p_fill, p_restart_default, p_fill_default, p_endsync, higher, lower) refl
 
 element_ranged : (in_seq : Bool) (k : Kind) (attrs : Attrs) → is_class_kind k ≡ false → IsAttrs in_seq k attrs
-    → (not (has_class_attrs attrs) && are_element_values in_seq attrs && (has_endsync k || not (is_some attrs.endsync)) && not (cond (is_set_kind k) (has_media_attrs attrs) (has_set_attrs attrs))) ≡ true
+    → (not (has_class_attrs attrs) && are_element_values in_seq attrs && (has_endsync k || not (is_some attrs.endsync))) ≡ true
 element_ranged in_seq k attrs class h =
     let g_peers = gone attr.Peers in_seq (is_class_kind k) attrs.peers (h name.Peers) class in
     let g_higher = gone attr.Higher in_seq (is_class_kind k) attrs.higher (h name.Higher) class in
@@ -309,24 +290,16 @@ element_ranged in_seq k attrs class h =
     let p_repeat_count = in_range attr.RepeatCount is_count in_seq (not (is_class_kind k)) (λ x r. r) attrs.repeat_count (h name.RepeatCount) in
     let p_repeat_dur = in_range attr.RepeatDur is_positive_bound in_seq (not (is_class_kind k)) (λ x r. r) attrs.repeat_dur (h name.RepeatDur) in
     let p_endsync = in_range attr.Endsync is_endsync in_seq (has_endsync k) (λ x r. r) attrs.endsync (h name.Endsync) in
-    let p_src = in_range attr.Src is_kept_text in_seq (not (is_class_kind k) && not (is_set_kind k)) (λ x r. r) attrs.src (h name.Src) in
-    let p_region = in_range attr.Region is_kept_text in_seq (not (is_class_kind k) && not (is_set_kind k)) (λ x r. r) attrs.region (h name.Region) in
-    let p_alt = in_range attr.Alt is_kept_text in_seq (not (is_class_kind k) && not (is_set_kind k)) (λ x r. r) attrs.alt (h name.Alt) in
-    let p_title = in_range attr.Title is_kept_text in_seq (not (is_class_kind k)) (λ x r. r) attrs.title (h name.Title) in
-    let p_target = in_range attr.TargetElement is_id in_seq (is_set_kind k) (λ x r. r) attrs.target_element (h name.TargetElement) in
-    let p_name = in_range attr.AttributeName is_attribute_name in_seq (is_set_kind k) (λ x r. r) attrs.attribute_name (h name.AttributeName) in
-    let p_to = in_range attr.To is_kept_text in_seq (is_set_kind k) (λ x r. r) attrs.to (h name.To) in
-    let apart = parted in_seq k attrs class h in
     let last = left_out attr.Endsync in_seq (has_endsync k) attrs.endsync (h name.Endsync) in
-    rw (g_peers, g_higher, g_lower, p_begin, p_dur, p_end, p_min, p_max, p_repeat_count, p_repeat_dur, p_endsync, p_src, p_region, p_alt, p_title, p_target, p_name, p_to, last, apart) refl
+    rw (g_peers, g_higher, g_lower, p_begin, p_dur, p_end, p_min, p_max, p_repeat_count, p_repeat_dur, p_endsync, last) refl
 
 pub ranges : (k : Kind) (parent : Option Kind) (attrs : Attrs) → IsAttrs (is_seq_parent parent) k attrs → fit_kind k parent attrs ≡ true
 ranges k parent attrs h =
     let id = in_range attr.Id is_id (is_seq_parent parent) true (λ x r. r) attrs.id (h name.Id) in
     let rest =
-    cond_both (is_class_kind k) (not (has_element_attrs attrs) && absent_or is_higher attrs.higher && absent_or is_lower attrs.lower) (not (has_class_attrs attrs) && are_element_values (is_seq_parent parent) attrs && (has_endsync k || not (is_some attrs.endsync)) && not (cond (is_set_kind k) (has_media_attrs attrs) (has_set_attrs attrs)))
+    cond_both (is_class_kind k) (not (has_element_attrs attrs) && absent_or is_higher attrs.higher && absent_or is_lower attrs.lower) (not (has_class_attrs attrs) && are_element_values (is_seq_parent parent) attrs && (has_endsync k || not (is_some attrs.endsync)))
     (λ t. t ≡ true) (λ class. class_ranged (is_seq_parent parent) k attrs class h) (λ class. element_ranged (is_seq_parent parent) k attrs class h) in
-    rw (id, rest) refl
+    rw (id, texts_ranged (is_seq_parent parent) k attrs h, rest) refl
 
 -- an attribute that is read for a node, among those that the node has
 pub given_fits : (k : Kind) (parent : Option Kind) (attrs : Attrs) (name value : List ℕ) (given : Attr) → fit_kind k parent attrs ≡ true → attribute_of (is_seq_parent parent) k name value ≡ Ok given → fit_kind k parent (with_attr attrs given) ≡ true

@@ -36,14 +36,14 @@ found_place test xs h = let t : ltb (position_or_len test xs) (length xs) ≡ tr
 -- ---- layers
 
 pub layer_made : (nodes : List Node) (view : View) (n : Node) (attrs : Attrs) → node_at nodes view.serial ≡ Some n → attrs ≡ n.attrs
-    → is_set_kind n.kind ≡ true → contributes view.state ≡ true → is_some attrs.to ≡ true
-    → layer_by (place_in nodes view.serial) (target_by nodes view.serial attrs.target_element) attrs.attribute_name (begin_shown view.begin)
+    → is_set_kind n.kind ≡ true → contributes view.state ≡ true → is_some attrs.texts.to ≡ true
+    → layer_by (place_in nodes view.serial) (target_by nodes view.serial attrs.texts.target_element) attrs.texts.attribute_name (begin_shown view.begin)
     ≡ layer_of nodes view n
 layer_made nodes view n attrs here same set plays to =
     let own : n.serial ≡ view.serial = own_serial nodes view.serial n here in
-    let given : is_some n.attrs.to ≡ true = ap (λ (a : Attrs). is_some a.to) (sym same) ∙ to in
-    ap (λ (a : Attrs). layer_by (place_in nodes view.serial) (target_by nodes view.serial a.target_element) a.attribute_name (begin_shown view.begin)) same
-    ∙ rw (set, plays, given) (ap (λ s. layer_by (place_in nodes s) (target_by nodes s n.attrs.target_element) n.attrs.attribute_name (begin_shown view.begin)) (sym own))
+    let given : is_some n.attrs.texts.to ≡ true = ap (λ (a : Attrs). is_some a.texts.to) (sym same) ∙ to in
+    ap (λ (a : Attrs). layer_by (place_in nodes view.serial) (target_by nodes view.serial a.texts.target_element) a.texts.attribute_name (begin_shown view.begin)) same
+    ∙ rw (set, plays, given) (ap (λ s. layer_by (place_in nodes s) (target_by nodes s n.attrs.texts.target_element) n.attrs.texts.attribute_name (begin_shown view.begin)) (sym own))
 
 -- ---- the places of different nodes differ
 
@@ -81,10 +81,10 @@ placed p (Some t) (Some a) None l q = cc
 placed p (Some t) (Some a) (Some b) l q = let is : record { target = t.serial; attr = a; begin = b; position = p } ≡ l = cc in ap (λ (m : Layer). m.position) (sym is)
 
 placed_of : (nodes : List Node) (v : View) (n : Node) (l : Layer) → layer_of nodes v n ≡ Some l → l.position ≡ place_in nodes n.serial
-placed_of nodes v n l q = by (is_set_kind n.kind && contributes v.state && is_some n.attrs.to) q
+placed_of nodes v n l q = by (is_set_kind n.kind && contributes v.state && is_some n.attrs.texts.to) q
   where
-    by : (t : Bool) → (if t then layer_by (place_in nodes n.serial) (target_by nodes n.serial n.attrs.target_element) n.attrs.attribute_name (begin_shown v.begin) else None) ≡ Some l → l.position ≡ place_in nodes n.serial
-    by true e = placed (place_in nodes n.serial) (target_by nodes n.serial n.attrs.target_element) n.attrs.attribute_name (begin_shown v.begin) l e
+    by : (t : Bool) → (if t then layer_by (place_in nodes n.serial) (target_by nodes n.serial n.attrs.texts.target_element) n.attrs.texts.attribute_name (begin_shown v.begin) else None) ≡ Some l → l.position ≡ place_in nodes n.serial
+    by true e = placed (place_in nodes n.serial) (target_by nodes n.serial n.attrs.texts.target_element) n.attrs.texts.attribute_name (begin_shown v.begin) l e
     by false e = cc
 
 row_of : (nodes : List Node) (v : View) (r : ℕ × Layer) → layer_in nodes v ≡ Some r → IsRowOf nodes v r

@@ -19,12 +19,17 @@ pub fn layer(tree: &Tree, view: &View) -> Result<Option<Layer>, AllocError>
         → IfOk result (λ layer. layer ≡ layer_of tree.now.nodes view.now n) }
 {
     let attrs = tree.attrs(view.serial);
-    if !is_set(tree.kind(view.serial)) || !contributes(view.state) || attrs.to.is_none() {
+    if !is_set(tree.kind(view.serial)) || !contributes(view.state) || attrs.texts.to.is_none() {
         return Ok(None);
     }
     let place = place_of(tree, view.serial);
-    let target = target(tree, view.serial, &attrs.target_element)?;
-    layer_at(place, target, &attrs.attribute_name, begin_of(view.begin))
+    let target = target(tree, view.serial, &attrs.texts.target_element)?;
+    layer_at(
+        place,
+        target,
+        &attrs.texts.attribute_name,
+        begin_of(view.begin),
+    )
 }
 
 // The layer of a set at a place in document order, where it has a target, an attribute to set and a

@@ -139,13 +139,7 @@ plain_sure in_seq name.Endsync text = of_value_sure _ _
 plain_sure in_seq name.Peers text = of_value_sure _ _
 plain_sure in_seq name.Higher text = of_value_sure _ _
 plain_sure in_seq name.Lower text = of_value_sure _ _
-plain_sure in_seq name.Src text = of_value_sure _ _
-plain_sure in_seq name.Region text = of_value_sure _ _
-plain_sure in_seq name.Alt text = of_value_sure _ _
-plain_sure in_seq name.Title text = of_value_sure _ _
-plain_sure in_seq name.TargetElement text = of_value_sure _ _
-plain_sure in_seq name.AttributeName text = of_value_sure _ _
-plain_sure in_seq name.To text = of_value_sure _ _
+plain_sure in_seq (name.Text n) text = of_value_sure _ _
 
 value_sure : (in_seq : Bool) (called : AttrName) (text : List ℕ) → Sure attr_lacks (value_of in_seq called text)
 value_sure in_seq called text = either attr_lacks _ _ _ (refused attr_lacks (attr.UnsupportedValue 0) refl) (plain_sure in_seq called text)

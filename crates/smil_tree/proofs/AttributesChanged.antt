@@ -16,13 +16,14 @@ use Rattle.smil_model.specs.declared.document.Kind.{Kind}
 use Rattle.smil_model.specs.declared.document.Item.{Item}
 use Rattle.smil_model.specs.declared.limits.TheConstants.{ITEMS}
 use Rattle.smil_model.specs.document.Words.{is_id}
-use Rattle.smil_model.specs.document.Values.{absent_or, is_list, is_item, is_begin, is_plain_begin, is_dur, is_higher, is_lower, has_endsync, has_class_attrs, has_set_attrs, has_media_attrs, has_element_attrs, are_element_values, is_seq_parent, fit_kind}
+use Rattle.smil_model.specs.document.Values.{absent_or, is_list, is_item, is_begin, is_plain_begin, is_dur, is_higher, is_lower, has_endsync, has_class_attrs, has_element_attrs, are_element_values, fits_text, is_seq_parent, fit_kind}
+use Rattle.smil_model.specs.document.Texts.{text_names}
 use Rattle.smil_model.specs.shown.Orders.{id_in}
 use Rattle.smil_laws.proofs.AsideDocuments.{find_true}
 use Rattle.smil_laws.proofs.Lists.{filter_shorter}
 use Rattle.smil_tree.specs.Outcomes.{passes, may_take}
 use Rattle.std.specs.Cmp.Lexicographic.{bytes_decides}
-use Rattle.smil_model.specs.document.Document.{node_at, is_class_kind, is_set_kind}
+use Rattle.smil_model.specs.document.Document.{node_at, is_class_kind}
 use Rattle.smil_model.specs.document.Valid.{IsNumberedTree, IsTree, IsTreeFrom, IsDistinct, open_from, is_id_taken, is_reference, kind_of, listed_references, references, references_among, references_of}
 use Rattle.smil_model.specs.document.Edits.{changed_at, with_attr, without_attr}
 use Rattle.smil_tree.specs.TreeFields.{bears, owner, is_other, IsTableOf}
@@ -216,24 +217,24 @@ absent_few None h = omega arith
 absent_few (Some items) h = cc
 
 pub fit_few : (kind : Kind) (parent : Option Kind) (attrs : Attrs) → fit_kind kind parent attrs ≡ true → references_among attrs ≤ 2 * ITEMS
-fit_few kind parent attrs h = by_class (is_class_kind kind) ((and_parts (absent_or is_id attrs.id) _ h).1)
+fit_few kind parent attrs h = by_class (is_class_kind kind) ((and_parts (absent_or is_id attrs.id && list_all (fits_text kind attrs.texts) text_names) _ h).1)
   where
     with_both : listed_references attrs.begin ≤ ITEMS → listed_references attrs.«end» ≤ ITEMS → references_among attrs ≤ 2 * ITEMS
     with_both a b = omega (arith, a, b)
 
     without_any : has_element_attrs attrs ≡ false → references_among attrs ≤ 2 * ITEMS
     without_any none =
-        let first = or_parts _ _ ((or_parts _ _ ((or_parts _ _ ((or_parts _ _ ((or_parts _ _ ((or_parts _ _ ((or_parts _ _ ((or_parts _ _ ((or_parts _ _ ((or_parts _ _ ((or_parts _ _ ((or_parts _ _ ((or_parts _ _ none).0)).0)).0)).0)).0)).0)).0)).0)).0)).0)).0)).0) in
+        let first = or_parts _ _ ((or_parts _ _ ((or_parts _ _ ((or_parts _ _ ((or_parts _ _ ((or_parts _ _ ((or_parts _ _ ((or_parts _ _ ((or_parts _ _ ((or_parts _ _ none).0)).0)).0)).0)).0)).0)).0)).0)).0) in
         with_both (absent_few attrs.begin ((or_parts (is_some attrs.begin) (is_some attrs.dur) first.0).0)) (absent_few attrs.«end» first.1)
 
     with_values : are_element_values (is_seq_parent parent) attrs ≡ true → references_among attrs ≤ 2 * ITEMS
     with_values all =
-        let first = and_parts _ _ ((and_parts _ _ ((and_parts _ _ ((and_parts _ _ ((and_parts _ _ ((and_parts _ _ ((and_parts _ _ ((and_parts _ _ ((and_parts _ _ ((and_parts _ _ ((and_parts _ _ ((and_parts _ _ ((and_parts _ _ all).0)).0)).0)).0)).0)).0)).0)).0)).0)).0)).0)).0) in
+        let first = and_parts _ _ ((and_parts _ _ ((and_parts _ _ ((and_parts _ _ ((and_parts _ _ ((and_parts _ _ all).0)).0)).0)).0)).0) in
         with_both (begin_few (is_seq_parent parent) attrs.begin ((and_parts (absent_or (is_begin (is_seq_parent parent)) attrs.begin) (absent_or is_dur attrs.dur) first.0).0)) (list_few attrs.«end» first.1)
 
-    by_class : (t : Bool) → cond t (not (has_element_attrs attrs) && absent_or is_higher attrs.higher && absent_or is_lower attrs.lower) (not (has_class_attrs attrs) && are_element_values (is_seq_parent parent) attrs && (has_endsync kind || not (is_some attrs.endsync)) && not (cond (is_set_kind kind) (has_media_attrs attrs) (has_set_attrs attrs))) ≡ true → references_among attrs ≤ 2 * ITEMS
+    by_class : (t : Bool) → cond t (not (has_element_attrs attrs) && absent_or is_higher attrs.higher && absent_or is_lower attrs.lower) (not (has_class_attrs attrs) && are_element_values (is_seq_parent parent) attrs && (has_endsync kind || not (is_some attrs.endsync))) ≡ true → references_among attrs ≤ 2 * ITEMS
     by_class true r = without_any (not-true _ ((and_parts _ _ ((and_parts _ _ r).0)).0))
-    by_class false r = with_values ((and_parts _ _ ((and_parts _ _ ((and_parts _ _ r).0)).0)).1)
+    by_class false r = with_values ((and_parts _ _ ((and_parts _ _ r).0)).1)
 
 pub taken_few : (nodes : List Node) (s : ℕ) (given : Attr) (old : Node) → node_at nodes s ≡ Some old → may_take nodes s given ≡ true → references_among (with_attr old.attrs given) ≤ 2 * ITEMS
 taken_few nodes s given old at h =
@@ -269,13 +270,7 @@ new_id nodes s old (attr.Endsync v) free q h = inl h
 new_id nodes s old (attr.Peers v) free q h = inl h
 new_id nodes s old (attr.Higher v) free q h = inl h
 new_id nodes s old (attr.Lower v) free q h = inl h
-new_id nodes s old (attr.Src v) free q h = inl h
-new_id nodes s old (attr.Region v) free q h = inl h
-new_id nodes s old (attr.Alt v) free q h = inl h
-new_id nodes s old (attr.Title v) free q h = inl h
-new_id nodes s old (attr.TargetElement v) free q h = inl h
-new_id nodes s old (attr.AttributeName v) free q h = inl h
-new_id nodes s old (attr.To v) free q h = inl h
+new_id nodes s old (attr.Text n v) free q h = inl h
 
 pub once_set : (nodes : List Node) (s : ℕ) (given : Attr) → IsDistinct nodes → IsSome (node_at nodes s) → ((q : List ℕ) → count_by (bears q) nodes ≤ 1) → is_id_taken nodes s (id_in given) ≡ false → (q : List ℕ) → count_by (bears q) (changed_at (λ attrs. with_attr attrs given) s nodes) ≤ 1
 once_set nodes s given d known once free =
@@ -299,13 +294,7 @@ fewer_ids old name.Endsync q h = h
 fewer_ids old name.Peers q h = h
 fewer_ids old name.Higher q h = h
 fewer_ids old name.Lower q h = h
-fewer_ids old name.Src q h = h
-fewer_ids old name.Region q h = h
-fewer_ids old name.Alt q h = h
-fewer_ids old name.Title q h = h
-fewer_ids old name.TargetElement q h = h
-fewer_ids old name.AttributeName q h = h
-fewer_ids old name.To q h = h
+fewer_ids old (name.Text n) q h = h
 
 pub fewer_references : (attrs : Attrs) (given : AttrName) → references_among (without_attr attrs given) ≤ references_among attrs
 fewer_references attrs name.Id = omega arith
@@ -324,13 +313,7 @@ fewer_references attrs name.Endsync = omega arith
 fewer_references attrs name.Peers = omega arith
 fewer_references attrs name.Higher = omega arith
 fewer_references attrs name.Lower = omega arith
-fewer_references attrs name.Src = omega arith
-fewer_references attrs name.Region = omega arith
-fewer_references attrs name.Alt = omega arith
-fewer_references attrs name.Title = omega arith
-fewer_references attrs name.TargetElement = omega arith
-fewer_references attrs name.AttributeName = omega arith
-fewer_references attrs name.To = omega arith
+fewer_references attrs (name.Text n) = omega arith
 
 -- what may take an attribute is a node
 pub taker_known : (nodes : List Node) (s : ℕ) (given : Attr) → may_take nodes s given ≡ true → IsSome (node_at nodes s)

@@ -1,14 +1,18 @@
 -- Attributes that fit, and still fit with one of them absent.
 use Rattle.std.proofs.Common.{◌≡◌, refl, sym, ◌∙◌, ap, Bool, true, false, Option, None, cond, inl, inr}
+use Rattle.std.specs.List.{list_all}
 use Rattle.std.specs.Prelude.{◌&&◌, ◌||◌, ◌⊎◌, not, is_some}
 use Rattle.smil_model.specs.declared.document.Attrs.{Attrs}
 use Rattle.smil_model.specs.declared.document.AttrName.{AttrName}
 use Rattle.smil_model.specs.declared.document.AttrName.TheVariants as name
+use Rattle.smil_model.specs.declared.texts.TextName.{TextName}
 use Rattle.smil_model.specs.declared.document.Kind.{Kind}
-use Rattle.smil_model.specs.document.Document.{is_class_kind, is_set_kind}
-use Rattle.smil_model.specs.document.Words.{is_id, is_attribute_name, is_kept_text}
-use Rattle.smil_model.specs.document.Values.{fit_kind, absent_or, is_begin, is_dur, is_list, is_clock, is_bound, is_count, is_positive_bound, is_endsync, has_element_attrs, has_media_attrs, has_set_attrs, has_class_attrs, are_element_values, has_endsync, is_seq_parent, is_higher, is_lower}
+use Rattle.smil_model.specs.document.Document.{is_class_kind}
+use Rattle.smil_model.specs.document.Words.{is_id}
+use Rattle.smil_model.specs.document.Values.{fit_kind, absent_or, is_begin, is_dur, is_list, is_clock, is_bound, is_count, is_positive_bound, is_endsync, has_element_attrs, has_class_attrs, are_element_values, fits_text, has_endsync, is_seq_parent, is_higher, is_lower}
+use Rattle.smil_model.specs.document.Texts.{has_text, is_text, text_at, text_names, with_text}
 use Rattle.smil_model.specs.document.Edits.{without_attr}
+use Rattle.smil_model.proofs.TextTables.{all_texts, changed_text, each_text}
 
 -- ---- tests of which one follows from another
 
@@ -112,64 +116,37 @@ module _ (attrs : Attrs) where
   lower_stays name.Lower = inr refl
   lower_stays _ = inl refl
 
-  src_stays : (given : AttrName) → Stays (without_attr attrs given).src attrs.src
-  src_stays name.Src = inr refl
-  src_stays _ = inl refl
-
-  region_stays : (given : AttrName) → Stays (without_attr attrs given).region attrs.region
-  region_stays name.Region = inr refl
-  region_stays _ = inl refl
-
-  alt_stays : (given : AttrName) → Stays (without_attr attrs given).alt attrs.alt
-  alt_stays name.Alt = inr refl
-  alt_stays _ = inl refl
-
-  title_stays : (given : AttrName) → Stays (without_attr attrs given).title attrs.title
-  title_stays name.Title = inr refl
-  title_stays _ = inl refl
-
-  target_element_stays : (given : AttrName) → Stays (without_attr attrs given).target_element attrs.target_element
-  target_element_stays name.TargetElement = inr refl
-  target_element_stays _ = inl refl
-
-  attribute_name_stays : (given : AttrName) → Stays (without_attr attrs given).attribute_name attrs.attribute_name
-  attribute_name_stays name.AttributeName = inr refl
-  attribute_name_stays _ = inl refl
-
-  to_stays : (given : AttrName) → Stays (without_attr attrs given).to attrs.to
-  to_stays name.To = inr refl
-  to_stays _ = inl refl
+  texts_stay : (given : AttrName) (n : TextName) → Stays (text_at (without_attr attrs given).texts n) (text_at attrs.texts n)
+  texts_stay (name.Text m) n = by (changed_text attrs.texts m n None)
+    where
+      by : ((m ≡ n) × (text_at (with_text attrs.texts m None) n ≡ None)) ⊎ (text_at (with_text attrs.texts m None) n ≡ text_at attrs.texts n) → Stays (text_at (with_text attrs.texts m None) n) (text_at attrs.texts n)
+      by (inl e) = inr e.1
+      by (inr e) = inl e
+  texts_stay _ n = inl refl
 
   module _ (kind : Kind) (parent : Option Kind) (given : AttrName) where
     abbrev after : Attrs
     after = without_attr attrs given
 
-    media_attrs : Leads (has_media_attrs after) (has_media_attrs attrs)
-    media_attrs = either _ _ _ _ (either _ _ _ _ (some_old _ _ (src_stays given)) (some_old _ _ (region_stays given))) (some_old _ _ (alt_stays given))
-
-    set_attrs : Leads (has_set_attrs after) (has_set_attrs attrs)
-    set_attrs = either _ _ _ _ (either _ _ _ _ (some_old _ _ (target_element_stays given)) (some_old _ _ (attribute_name_stays given))) (some_old _ _ (to_stays given))
+    texts : Leads (list_all (fits_text kind attrs.texts) text_names) (list_all (fits_text kind after.texts) text_names)
+    texts h = all_texts (fits_text kind after.texts) (λ n. passes_new (λ text. has_text kind n && is_text n text) _ _ (texts_stay given n) (each_text (fits_text kind attrs.texts) h n))
 
     element_attrs : Leads (has_element_attrs after) (has_element_attrs attrs)
-    element_attrs = either _ _ _ _ (either _ _ _ _ (either _ _ _ _ (either _ _ _ _ (either _ _ _ _ (either _ _ _ _ (either _ _ _ _ (either _ _ _ _ (either _ _ _ _ (either _ _ _ _ (either _ _ _ _ (either _ _ _ _ (either _ _ _ _ (either _ _ _ _ (some_old _ _ (begin_stays given)) (some_old _ _ (dur_stays given))) (some_old _ _ (end_stays given))) (some_old _ _ (min_stays given))) (some_old _ _ (max_stays given))) (some_old _ _ (repeat_count_stays given))) (some_old _ _ (repeat_dur_stays given))) (some_old _ _ (restart_stays given))) (some_old _ _ (fill_stays given))) (some_old _ _ (restart_default_stays given))) (some_old _ _ (fill_default_stays given))) (some_old _ _ (endsync_stays given))) media_attrs) (some_old _ _ (title_stays given))) set_attrs
+    element_attrs = either _ _ _ _ (either _ _ _ _ (either _ _ _ _ (either _ _ _ _ (either _ _ _ _ (either _ _ _ _ (either _ _ _ _ (either _ _ _ _ (either _ _ _ _ (either _ _ _ _ (either _ _ _ _ (some_old _ _ (begin_stays given)) (some_old _ _ (dur_stays given))) (some_old _ _ (end_stays given))) (some_old _ _ (min_stays given))) (some_old _ _ (max_stays given))) (some_old _ _ (repeat_count_stays given))) (some_old _ _ (repeat_dur_stays given))) (some_old _ _ (restart_stays given))) (some_old _ _ (fill_stays given))) (some_old _ _ (restart_default_stays given))) (some_old _ _ (fill_default_stays given))) (some_old _ _ (endsync_stays given))
 
     class_attrs : Leads (has_class_attrs after) (has_class_attrs attrs)
     class_attrs = either _ _ _ _ (either _ _ _ _ (some_old _ _ (peers_stays given)) (some_old _ _ (higher_stays given))) (some_old _ _ (lower_stays given))
 
     values : Leads (are_element_values (is_seq_parent parent) attrs) (are_element_values (is_seq_parent parent) after)
-    values = both _ _ _ _ (both _ _ _ _ (both _ _ _ _ (both _ _ _ _ (both _ _ _ _ (both _ _ _ _ (both _ _ _ _ (both _ _ _ _ (both _ _ _ _ (both _ _ _ _ (both _ _ _ _ (both _ _ _ _ (both _ _ _ _ (both _ _ _ _ (passes_new (is_begin (is_seq_parent parent)) _ _ (begin_stays given)) (passes_new is_dur _ _ (dur_stays given))) (passes_new is_list _ _ (end_stays given))) (passes_new is_clock _ _ (min_stays given))) (passes_new is_bound _ _ (max_stays given))) (passes_new is_count _ _ (repeat_count_stays given))) (passes_new is_positive_bound _ _ (repeat_dur_stays given))) (passes_new is_endsync _ _ (endsync_stays given))) (passes_new is_kept_text _ _ (src_stays given))) (passes_new is_kept_text _ _ (region_stays given))) (passes_new is_kept_text _ _ (alt_stays given))) (passes_new is_kept_text _ _ (title_stays given))) (passes_new is_id _ _ (target_element_stays given))) (passes_new is_attribute_name _ _ (attribute_name_stays given))) (passes_new is_kept_text _ _ (to_stays given))
-
-    foreign : (t : Bool) → Leads (cond t (has_media_attrs after) (has_set_attrs after)) (cond t (has_media_attrs attrs) (has_set_attrs attrs))
-    foreign true = media_attrs
-    foreign false = set_attrs
+    values = both _ _ _ _ (both _ _ _ _ (both _ _ _ _ (both _ _ _ _ (both _ _ _ _ (both _ _ _ _ (both _ _ _ _ (passes_new (is_begin (is_seq_parent parent)) _ _ (begin_stays given)) (passes_new is_dur _ _ (dur_stays given))) (passes_new is_list _ _ (end_stays given))) (passes_new is_clock _ _ (min_stays given))) (passes_new is_bound _ _ (max_stays given))) (passes_new is_count _ _ (repeat_count_stays given))) (passes_new is_positive_bound _ _ (repeat_dur_stays given))) (passes_new is_endsync _ _ (endsync_stays given))
 
     of_kind : (t : Bool) → Leads
-        (cond t (not (has_element_attrs attrs) && absent_or is_higher attrs.higher && absent_or is_lower attrs.lower) (not (has_class_attrs attrs) && are_element_values (is_seq_parent parent) attrs && (has_endsync kind || not (is_some attrs.endsync)) && not (cond (is_set_kind kind) (has_media_attrs attrs) (has_set_attrs attrs))))
-        (cond t (not (has_element_attrs after) && absent_or is_higher after.higher && absent_or is_lower after.lower) (not (has_class_attrs after) && are_element_values (is_seq_parent parent) after && (has_endsync kind || not (is_some after.endsync)) && not (cond (is_set_kind kind) (has_media_attrs after) (has_set_attrs after))))
+        (cond t (not (has_element_attrs attrs) && absent_or is_higher attrs.higher && absent_or is_lower attrs.lower) (not (has_class_attrs attrs) && are_element_values (is_seq_parent parent) attrs && (has_endsync kind || not (is_some attrs.endsync))))
+        (cond t (not (has_element_attrs after) && absent_or is_higher after.higher && absent_or is_lower after.lower) (not (has_class_attrs after) && are_element_values (is_seq_parent parent) after && (has_endsync kind || not (is_some after.endsync))))
     of_kind true =
         both _ _ _ _ (both _ _ _ _ (turned _ _ element_attrs) (passes_new is_higher _ _ (higher_stays given))) (passes_new is_lower _ _ (lower_stays given))
     of_kind false =
-        both _ _ _ _ (both _ _ _ _ (both _ _ _ _ (turned _ _ class_attrs) values) (either _ _ _ _ (same (has_endsync kind)) (turned _ _ (some_old _ _ (endsync_stays given))))) (turned _ _ (foreign (is_set_kind kind)))
+        both _ _ _ _ (both _ _ _ _ (turned _ _ class_attrs) values) (either _ _ _ _ (same (has_endsync kind)) (turned _ _ (some_old _ _ (endsync_stays given))))
 
     pub fit_without : fit_kind kind parent attrs ≡ true → fit_kind kind parent (without_attr attrs given) ≡ true
-    fit_without = both _ _ _ _ (passes_new is_id _ _ (id_stays given)) (of_kind (is_class_kind kind))
+    fit_without = both _ _ _ _ (both _ _ _ _ (passes_new is_id _ _ (id_stays given)) texts) (of_kind (is_class_kind kind))

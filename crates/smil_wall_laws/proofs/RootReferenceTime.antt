@@ -27,7 +27,8 @@ use Rattle.smil_model.specs.Times.{within_horizon, numbers, time_le}
 use Rattle.smil_model.specs.document.Limits.{Limits}
 use Rattle.smil_model.specs.document.Document.{Document, elements, node_at, is_element, is_class_kind, is_container_kind, is_in_excl, time_parent, has_id, element_named}
 use Rattle.smil_model.specs.document.Defaults.{items_or, begin_list, end_list, items_of}
-use Rattle.smil_model.specs.document.Values.{absent_or, has_class_attrs, is_offset, is_item, is_list, is_begin, are_element_values, is_seq_parent}
+use Rattle.smil_model.specs.document.Values.{absent_or, has_class_attrs, is_offset, is_item, is_list, is_begin, are_element_values, fits_text, is_seq_parent}
+use Rattle.smil_model.specs.document.Texts.{text_names}
 use Rattle.smil_model.specs.document.Words.{is_id}
 use Rattle.smil_model.specs.document.Valid.{IsValidWithin, IsNumberedTree, is_well_placed, may_stand, kind_of, has_fitting_attrs}
 use Rattle.smil_model.specs.diary.Diary.{History, birth, birth_under, is_active, lives_under, is_step}
@@ -76,7 +77,7 @@ record Lists (in_seq : Bool) (attrs : Attrs) : Type 0 where
 
 lists_in : (in_seq : Bool) (attrs : Attrs) → are_element_values in_seq attrs ≡ true → Lists in_seq attrs
 lists_in in_seq attrs h =
-    let three = ands_left _ _ (ands_left _ _ (ands_left _ _ (ands_left _ _ (ands_left _ _ (ands_left _ _ (ands_left _ _ (ands_left _ _ (ands_left _ _ (ands_left _ _ (ands_left _ _ (ands_left _ _ h))))))))))) in
+    let three = ands_left _ _ (ands_left _ _ (ands_left _ _ (ands_left _ _ (ands_left _ _ h)))) in
     let last = and_parts (absent_or (is_begin in_seq) attrs.begin && _) (absent_or is_list attrs.«end») three in
     record { begins = ands_left _ _ last.0; ends = last.1 }
 
@@ -106,8 +107,8 @@ else_part false a b e q = q
 -- the lists of an element of a valid document
 lists_of : (nodes : List Node) (e : Node) → is_element e ≡ true → has_fitting_attrs nodes e ≡ true → Lists (is_seq_parent (kind_of (node_at nodes e.parent))) e.attrs
 lists_of nodes e element fit =
-    let fitting = else_part (is_class_kind e.kind) _ _ (not-true (is_class_kind e.kind) element) (and_parts (absent_or is_id e.attrs.id) _ fit).1 in
-    lists_in (is_seq_parent (kind_of (node_at nodes e.parent))) e.attrs (and_parts (not (has_class_attrs e.attrs)) _ (ands_left _ _ (ands_left _ _ fitting))).1
+    let fitting = else_part (is_class_kind e.kind) _ _ (not-true (is_class_kind e.kind) element) (and_parts (absent_or is_id e.attrs.id && list_all (fits_text e.kind e.attrs.texts) text_names) _ fit).1 in
+    lists_in (is_seq_parent (kind_of (node_at nodes e.parent))) e.attrs (and_parts (not (has_class_attrs e.attrs)) _ (ands_left _ _ fitting)).1
 
 each_pass : (p : Node → Bool) (ns : List Node) → list_all p ns ≡ true → AllByRecursion (λ (n : Node). p n ≡ true) ns
 each_pass p [] q = tt

@@ -8,6 +8,7 @@ use Rattle.smil_model.specs.declared.document.AttrName.{AttrName}
 use Rattle.smil_model.specs.declared.document.AttrName.TheVariants as name
 use Rattle.smil_model.specs.declared.document.Kind.{Kind}
 use Rattle.smil_model.specs.document.Document.{Document, is_within}
+use Rattle.smil_model.specs.document.Texts.{no_texts, with_text}
 
 -- every attribute is absent
 abbrev pub no_attrs : Attrs
@@ -28,13 +29,7 @@ no_attrs = record {
   peers = None;
   higher = None;
   lower = None;
-  src = None;
-  region = None;
-  alt = None;
-  title = None;
-  target_element = None;
-  attribute_name = None;
-  to = None;
+  texts = no_texts;
 }
 
 -- the attributes with this one set
@@ -55,13 +50,7 @@ with_attr attrs (attr.Endsync v) = record attrs { endsync = Some v }
 with_attr attrs (attr.Peers v) = record attrs { peers = Some v }
 with_attr attrs (attr.Higher v) = record attrs { higher = Some v }
 with_attr attrs (attr.Lower v) = record attrs { lower = Some v }
-with_attr attrs (attr.Src v) = record attrs { src = Some v }
-with_attr attrs (attr.Region v) = record attrs { region = Some v }
-with_attr attrs (attr.Alt v) = record attrs { alt = Some v }
-with_attr attrs (attr.Title v) = record attrs { title = Some v }
-with_attr attrs (attr.TargetElement v) = record attrs { target_element = Some v }
-with_attr attrs (attr.AttributeName v) = record attrs { attribute_name = Some v }
-with_attr attrs (attr.To v) = record attrs { to = Some v }
+with_attr attrs (attr.Text n v) = record attrs { texts = with_text attrs.texts n (Some v) }
 
 -- the attributes with this one absent
 abbrev pub without_attr : Attrs → AttrName → Attrs
@@ -81,13 +70,7 @@ without_attr attrs name.Endsync = record attrs { endsync = None }
 without_attr attrs name.Peers = record attrs { peers = None }
 without_attr attrs name.Higher = record attrs { higher = None }
 without_attr attrs name.Lower = record attrs { lower = None }
-without_attr attrs name.Src = record attrs { src = None }
-without_attr attrs name.Region = record attrs { region = None }
-without_attr attrs name.Alt = record attrs { alt = None }
-without_attr attrs name.Title = record attrs { title = None }
-without_attr attrs name.TargetElement = record attrs { target_element = None }
-without_attr attrs name.AttributeName = record attrs { attribute_name = None }
-without_attr attrs name.To = record attrs { to = None }
+without_attr attrs (name.Text n) = record attrs { texts = with_text attrs.texts n None }
 
 -- the nodes with the attributes of one changed
 abbrev pub changed_at : (Attrs → Attrs) → ℕ → List Node → List Node

@@ -8,6 +8,8 @@ use Rattle.smil_model.specs.declared.limits.TheConstants.{COUNT_THOUSANDTHS, ITE
 use Rattle.smil_model.specs.declared.document.Kind.{Kind}
 use Rattle.smil_model.specs.declared.document.Kind.TheVariants.{Par, Excl}
 use Rattle.smil_model.specs.declared.document.Attrs.{Attrs}
+use Rattle.smil_model.specs.declared.texts.Texts.{Texts}
+use Rattle.smil_model.specs.declared.texts.TextName.{TextName}
 use Rattle.smil_model.specs.declared.document.Item.{Item}
 use Rattle.smil_model.specs.declared.document.Item.TheVariants as item
 use Rattle.smil_model.specs.declared.document.Dur.{Dur}
@@ -18,8 +20,9 @@ use Rattle.smil_model.specs.declared.document.Endsync.{Endsync}
 use Rattle.smil_model.specs.declared.document.Endsync.TheVariants.{Child}
 use Rattle.smil_model.specs.declared.document.Act.{Act}
 use Rattle.smil_model.specs.declared.document.Act.TheVariants.{Stop, Pause, Defer, Never}
-use Rattle.smil_model.specs.document.Document.{is_class_kind, is_seq_kind, is_set_kind}
-use Rattle.smil_model.specs.document.Words.{is_id, is_event_name, is_key, is_attribute_name, is_kept_text}
+use Rattle.smil_model.specs.document.Document.{is_class_kind, is_seq_kind}
+use Rattle.smil_model.specs.document.Words.{is_id, is_event_name, is_key}
+use Rattle.smil_model.specs.document.Texts.{has_text, is_text, text_at, text_names}
 
 -- an absent value, or one that passes
 abbrev pub absent_or : {A : Type 0} → (A → Bool) → Option A → Bool
@@ -109,16 +112,7 @@ has_endsync _ = false
 abbrev pub has_class_attrs : Attrs → Bool
 has_class_attrs attrs = is_some attrs.peers || is_some attrs.higher || is_some attrs.lower
 
--- what a set alone may have
-abbrev pub has_set_attrs : Attrs → Bool
-has_set_attrs attrs =
-    is_some attrs.target_element || is_some attrs.attribute_name || is_some attrs.to
-
--- what a set may not have, though other elements may
-abbrev pub has_media_attrs : Attrs → Bool
-has_media_attrs attrs = is_some attrs.src || is_some attrs.region || is_some attrs.alt
-
--- what a priorityClass may not have
+-- what a priorityClass may not have, besides texts
 abbrev pub has_element_attrs : Attrs → Bool
 has_element_attrs attrs =
     is_some attrs.begin || is_some attrs.dur || is_some attrs.«end» || is_some attrs.min
@@ -126,8 +120,6 @@ has_element_attrs attrs =
     || is_some attrs.repeat_count || is_some attrs.repeat_dur || is_some attrs.restart
     || is_some attrs.fill
     || is_some attrs.restart_default || is_some attrs.fill_default || is_some attrs.endsync
-    || has_media_attrs attrs
-    || is_some attrs.title || has_set_attrs attrs
 
 -- the values of the attributes that a priorityClass has not
 abbrev pub are_element_values : Bool → Attrs → Bool
@@ -137,10 +129,11 @@ are_element_values in_seq attrs =
     && absent_or is_clock attrs.min && absent_or is_bound attrs.max
     && absent_or is_count attrs.repeat_count
     && absent_or is_positive_bound attrs.repeat_dur && absent_or is_endsync attrs.endsync
-    && absent_or is_kept_text attrs.src && absent_or is_kept_text attrs.region
-    && absent_or is_kept_text attrs.alt
-    && absent_or is_kept_text attrs.title && absent_or is_id attrs.target_element
-    && absent_or is_attribute_name attrs.attribute_name && absent_or is_kept_text attrs.to
+
+-- a text of this name that is there is one of the kind's, with a value that it may have
+abbrev pub fits_text : Kind → Texts → TextName → Bool
+fits_text kind texts name =
+    absent_or (λ text. has_text kind name && is_text name text) (text_at texts name)
 
 abbrev pub is_seq_parent : Option Kind → Bool
 is_seq_parent None = false
@@ -149,10 +142,9 @@ is_seq_parent (Some kind) = is_seq_kind kind
 -- the attributes fit the node's kind and its parent's kind, with values in their ranges
 abbrev pub fit_kind : Kind → Option Kind → Attrs → Bool
 fit_kind kind parent attrs =
-    absent_or is_id attrs.id
+    absent_or is_id attrs.id && list_all (fits_text kind attrs.texts) text_names
     && (if is_class_kind kind
     then not (has_element_attrs attrs) && absent_or is_higher attrs.higher
     && absent_or is_lower attrs.lower
     else not (has_class_attrs attrs) && are_element_values (is_seq_parent parent) attrs
-    && (has_endsync kind || not (is_some attrs.endsync))
-    && not (if is_set_kind kind then has_media_attrs attrs else has_set_attrs attrs))
+    && (has_endsync kind || not (is_some attrs.endsync)))

@@ -48,7 +48,7 @@ history_text p (Some n) =
 -- the value that a set sets, and how it is named
 abbrev pub value_of : List Node → ℕ → List ℕ
 value_of nodes setter =
-    option_map_or (λ (n : Node). unwrap_or n.attrs.to []) (node_at nodes setter) []
+    option_map_or (λ (n : Node). unwrap_or n.attrs.texts.to []) (node_at nodes setter) []
 
 -- each attribute of a target that is set, by the top of its stack
 abbrev pub top_text : List Node → ℕ → List ℕ → List ℕ → List ℕ

@@ -36,9 +36,9 @@ layer_by place _ _ _ = None
 -- the layer of a set that contributes, and has an attribute to set, a value and a target
 abbrev pub layer_of : List Node → View → Node → Option Layer
 layer_of nodes view n =
-    if is_set_kind n.kind && contributes view.state && is_some n.attrs.to
+    if is_set_kind n.kind && contributes view.state && is_some n.attrs.texts.to
     then layer_by (place_in nodes n.serial)
-    (target_by nodes n.serial n.attrs.target_element) n.attrs.attribute_name
+    (target_by nodes n.serial n.attrs.texts.target_element) n.attrs.texts.attribute_name
     (begin_shown view.begin)
     else None
 
