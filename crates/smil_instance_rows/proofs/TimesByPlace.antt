@@ -1,7 +1,9 @@
 -- Instance times in the order of their places.
-use Rattle.std.proofs.Common.{◌≡◌, sym, refl, ◌∙◌, ap, ℕ, suc, ◌≤◌, ◌<◌, List, [], ◌∷◌, ◌++◌, length, Bool, true, false, Option, Some, None, arith}
-use Rattle.std.proofs.lemmas.List.{same_from_push}
-use Rattle.std.specs.Prelude.{◌-◌, cond, get_or, drop, nat_le, nat_lt}
+use Rattle.std.proofs.Common.{◌≡◌, sym, refl, subst, ◌∙◌, ap, ℕ, suc, ◌≤◌, ◌<◌, List, [], ◌∷◌, ◌++◌, length, Bool, true, false, Option, Some, None, arith}
+use Rattle.std.proofs.lemmas.List.{same_from_push, length-append, get_or_append_left}
+use Rattle.std.proofs.lemmas.Option.{get_or_from_slice_get, slice_get-get_or}
+use Rattle.std.specs.Option.{option_to_list}
+use Rattle.std.specs.Prelude.{◌-◌, ◌+◌, cond, get_or, drop, nat_le, nat_lt, slice_get, IfNone}
 use Rattle.smil_model.specs.declared.times.Time.{Time}
 use Rattle.smil_instance_rows.specs.declared.item_times.InstanceTime.{InstanceTime}
 use Rattle.smil_instance_rows.specs.Rows.{before_place, from_place}
@@ -20,13 +22,59 @@ from_all place (k ∷ ks) all =
     ∙ ap (λ rest. k ∷ rest) (from_all place ks (λ j d inside. all (suc j) d (omega (arith, inside))))
 
 -- nothing is taken out where the first stays
-pub from_front : (place : ℕ) (ks : List InstanceTime) (first : InstanceTime) → IsInOrder ks → first ≡ get_or ks 0 first → place ≤ first.place → from_place place ks ≡ ks
+from_front : (place : ℕ) (ks : List InstanceTime) (first : InstanceTime) → IsInOrder ks → first ≡ get_or ks 0 first → place ≤ first.place → from_place place ks ≡ ks
 from_front place ks first order is_first late =
     from_all place ks (λ j d inside. let up : (get_or ks 0 first).place ≤ (get_or ks j first).place = order 0 j first (omega arith) inside in let one : first.place ≡ (get_or ks 0 first).place = ap (λ (k : InstanceTime). k.place) is_first in let same : (get_or ks j first).place ≡ (get_or ks j d).place = ap (λ (k : InstanceTime). k.place) (default_free ks j first d inside) in omega (arith, up, one, late, same))
 
-pub rest_in_order : (ks : List InstanceTime) → IsInOrder ks → IsInOrder (drop 1 ks)
+pub from_first : (place : ℕ) (ks : List InstanceTime) (first : InstanceTime) → IsInOrder ks → slice_get ks 0 ≡ Some first → place ≤ first.place → from_place place ks ≡ ks
+from_first place ks first order is late = from_front place ks first order (sym (get_or_from_slice_get ks 0 first first is)) late
+
+rest_in_order : (ks : List InstanceTime) → IsInOrder ks → IsInOrder (drop 1 ks)
 rest_in_order [] order = order
 rest_in_order (k ∷ ks) order = λ i j d le inside. order (suc i) (suc j) d (omega (arith, le)) (omega (arith, inside))
+
+-- ---- the ends of a list
+
+impossible : {A G : Type 0} (o : Option A) (x : A) → o ≡ Some x → o ≡ None → G
+impossible o x some none = cc
+
+pub empty_front : (ks : List InstanceTime) → slice_get ks 0 ≡ None → ks ≡ []
+empty_front [] is = refl
+empty_front (k ∷ ks) is = impossible (slice_get (k ∷ ks) 0) (get_or (k ∷ ks) 0 k) (slice_get-get_or (k ∷ ks) 0 k (omega arith)) is
+
+pub empty_back : (ks : List InstanceTime) → slice_get ks (length ks - 1) ≡ None → ks ≡ []
+empty_back [] is = refl
+empty_back (k ∷ ks) is =
+    let n = length (k ∷ ks) - 1 in
+    impossible (slice_get (k ∷ ks) n) (get_or (k ∷ ks) n k) (slice_get-get_or (k ∷ ks) n k (omega arith)) is
+
+-- where none is taken from the end there is none
+pub none_at_end : (taken : Option InstanceTime) (ks : List InstanceTime) → taken ≡ slice_get ks (length ks - 1) → IfNone taken (ks ≡ [])
+none_at_end None ks is = empty_back ks (sym is)
+none_at_end (Some k) ks is = tt
+
+-- where there are several, one is taken from the front
+pub some_in_front : (G : Type 0) (taken : Option InstanceTime) (ks : List InstanceTime) → taken ≡ slice_get ks 0 → 1 < length ks → IfNone taken G
+some_in_front G None ks is more =
+    let none : 1 < 0 = subst (λ (xs : List InstanceTime). 1 < length xs) (empty_front ks (sym is)) more in
+    absurd (omega (arith, none))
+some_in_front G (Some k) ks is more = tt
+
+-- what is left in order behind the first, where there is one
+pub rest_of_front : (ks rest : List InstanceTime) (first : Option InstanceTime) → ks ≡ option_to_list first ++ rest → IsInOrder ks → IsInOrder rest
+rest_of_front ks rest None is order = subst IsInOrder is order
+rest_of_front ks rest (Some first) is order = rest_in_order (first ∷ rest) (subst IsInOrder is order)
+
+-- what is left in order before the last, where there is one
+pub rest_of_back : (ks rest : List InstanceTime) (last : Option InstanceTime) → ks ≡ rest ++ option_to_list last → IsInOrder ks → IsInOrder rest
+rest_of_back ks rest last is order = λ i j d le inside.
+    let own = option_to_list last in
+    let whole : IsInOrder (rest ++ own) = subst IsInOrder is order in
+    let long : length (rest ++ own) ≡ length rest + length own = length-append rest own in
+    let at : (get_or (rest ++ own) i d).place ≤ (get_or (rest ++ own) j d).place = whole i j d le (omega (arith, inside, long)) in
+    let one : (get_or (rest ++ own) i d).place ≡ (get_or rest i d).place = ap (λ (k : InstanceTime). k.place) (get_or_append_left rest own d i (omega (arith, le, inside))) in
+    let other : (get_or (rest ++ own) j d).place ≡ (get_or rest j d).place = ap (λ (k : InstanceTime). k.place) (get_or_append_left rest own d j inside) in
+    omega (arith, at, one, other)
 
 -- the first taken out
 pub cut_first : (place : ℕ) (first : InstanceTime) (ks : List InstanceTime) → first.place < place → from_place place (first ∷ ks) ≡ from_place place ks
@@ -45,9 +93,12 @@ before_all place (k ∷ ks) all =
     ∙ ap (λ rest. k ∷ rest) (before_all place ks (λ j d inside. all (suc j) d (omega (arith, inside))))
 
 -- nothing is taken out where the last stays
-pub before_back : (place : ℕ) (ks : List InstanceTime) (last : InstanceTime) → IsInOrder ks → last ≡ get_or ks (length ks - 1) last → last.place < place → before_place place ks ≡ ks
+before_back : (place : ℕ) (ks : List InstanceTime) (last : InstanceTime) → IsInOrder ks → last ≡ get_or ks (length ks - 1) last → last.place < place → before_place place ks ≡ ks
 before_back place ks last order is_last early =
     before_all place ks (λ j d inside. let up : (get_or ks j last).place ≤ (get_or ks (length ks - 1) last).place = order j (length ks - 1) last (omega (arith, inside)) (omega (arith, inside)) in let one : last.place ≡ (get_or ks (length ks - 1) last).place = ap (λ (k : InstanceTime). k.place) is_last in let same : (get_or ks j last).place ≡ (get_or ks j d).place = ap (λ (k : InstanceTime). k.place) (default_free ks j last d inside) in omega (arith, up, one, early, same))
+
+pub before_last : (place : ℕ) (ks : List InstanceTime) (last : InstanceTime) → IsInOrder ks → slice_get ks (length ks - 1) ≡ Some last → last.place < place → before_place place ks ≡ ks
+before_last place ks last order is early = before_back place ks last order (sym (get_or_from_slice_get ks (length ks - 1) last last is)) early
 
 -- the last taken out
 pub before_push : (place : ℕ) (ks : List InstanceTime) (last : InstanceTime) → place ≤ last.place → before_place place (ks ++ last ∷ []) ≡ before_place place ks

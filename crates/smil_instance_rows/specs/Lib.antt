@@ -5,3 +5,4 @@ pub mod Readings
 pub mod Rows
 pub mod Values
 pub mod Notes
+pub mod ShortLists

@@ -6,10 +6,11 @@ ghost use Rattle.smil_instance_rows.specs.Values.{with_value, without_value};
 ghost use Rattle.smil_instance_rows.specs.Places.{IsNotAfter, TakesFirst, TakesMore, last_alone, Replaces, IsUndone, TakesLast};
 
 use super::instant::Instant;
+use super::short_queue::ShortQueue;
 use super::sorted::SortedList;
 use smil_model::{Duplicate, Time};
 use std::alloc::{AllocError, Global};
-use std::collections::VecDeque;
+use std::default::MadeWith;
 use std::marker::Model;
 
 /// A time with the place of the entry that gave it.
@@ -22,7 +23,7 @@ pub struct InstanceTime {
 /// The instance times of an item, in the order of their places; seen as their list.
 #[derive(Drop)]
 pub struct ItemTimes {
-    kept: VecDeque<InstanceTime>,
+    kept: ShortQueue<InstanceTime>,
 }
 
 impl Model for ItemTimes {
@@ -32,16 +33,22 @@ impl Model for ItemTimes {
 
     ghost Value = { List InstanceTime };
 
-    ghost view = { λ a. a.kept.items };
+    ghost view = { λ a. a.kept };
 
-    ghost invariant = { λ a. IsInOrder a.kept.items };
+    ghost invariant = { λ a. IsInOrder a.kept };
 }
 
 impl Duplicate for ItemTimes {
     fn copy(&self) -> Result<Self, AllocError> {
         Ok(ItemTimes {
-            kept: self.kept.iter().copied().collect(*self.kept.allocator())?,
+            kept: self.kept.copy()?,
         })
+    }
+}
+
+impl MadeWith<Global> for ItemTimes {
+    fn made_with(alloc: Global) -> ItemTimes {
+        ItemTimes::new(alloc)
     }
 }
 
@@ -51,7 +58,7 @@ impl ItemTimes {
         ensures { result ≡ [] }
     {
         ItemTimes {
-            kept: VecDeque::new(alloc),
+            kept: ShortQueue::new(alloc),
         }
     }
 
@@ -61,8 +68,7 @@ impl ItemTimes {
         ensures ok { OnOk result (self.new ≡ self.old ++ last ∷ []) }
         ensures err { OnErr result (self.new ≡ self.old) }
     {
-        self.kept.push_back(last)?;
-        Ok(())
+        self.kept.push_back(last)
     }
 
     /// Takes the last out; None exactly where there is none. It takes no memory.
@@ -80,7 +86,7 @@ impl ItemTimes {
         ensures none { IfNone result ((self.new ≡ self.old)
             × (from_place place self.old ≡ self.old)) }
     {
-        match self.kept.front() {
+        match self.kept.first() {
             Some(first) => {
                 if first.place >= place {
                     return None;
@@ -98,7 +104,7 @@ impl ItemTimes {
         ensures none { IfNone result ((self.new ≡ self.old)
             × (before_place place self.old ≡ self.old)) }
     {
-        match self.kept.back() {
+        match self.kept.last() {
             Some(last) => {
                 if last.place < place {
                     return None;
@@ -114,7 +120,7 @@ impl ItemTimes {
     pub fn has_before(&self, place: usize) -> bool
         ensures { result ≡ false → (from_place place self.now ≡ self.now) }
     {
-        match self.kept.front() {
+        match self.kept.first() {
             Some(first) => first.place < place,
             None => false,
         }
@@ -124,7 +130,7 @@ impl ItemTimes {
     pub fn has_more(&self) -> bool
         ensures { result ≡ false → (last_alone self.now ≡ self.now) }
     {
-        self.kept.len() > 1
+        self.kept.has_more()
     }
 
     /// Takes the first out, if it is not the only one; else all stays. It takes no memory.
@@ -132,7 +138,7 @@ impl ItemTimes {
         ensures some { IfSome result (TakesMore self.old self.new) }
         ensures none { IfNone result ((self.new ≡ self.old) × (length self.old ≤ 1)) }
     {
-        if self.kept.len() > 1 {
+        if self.kept.has_more() {
             self.kept.pop_front()
         } else {
             None

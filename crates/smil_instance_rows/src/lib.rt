@@ -10,6 +10,8 @@ mod item_times;
 pub mod notes;
 pub mod row;
 pub mod rows;
+mod short_list;
+mod short_queue;
 mod side;
 mod sorted;
 

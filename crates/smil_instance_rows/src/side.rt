@@ -1,14 +1,14 @@
 //! The instance times of one list of items, and their values in rising order.
 
-ghost use Rattle.std.specs.Prelude.{◌≡◌, List, [], ◌∷◌, ◌++◌, OnOk, OnErr, ◌<◌, length, get_or, set, not, find, false, map};
+ghost use Rattle.std.specs.Prelude.{◌≡◌, List, [], ◌∷◌, ◌++◌, OnOk, OnErr, IfOk, ◌<◌, length, get_or, set, not, find, false, map};
 ghost use Rattle.smil_instance_rows.specs.Rows.{from_place, before_place};
 ghost use Rattle.smil_instance_rows.specs.Values.{merged, with_idle};
 ghost use Rattle.smil_instance_rows.specs.Places.{IsNotAfter, EndsWith, last_alone};
 
-use super::copies::copy_each;
 use super::instant::Instant;
 use super::item_times::{InstanceTime, ItemTimes, add, cut, cut_later, keep_last, undo};
 use super::sorted::SortedList;
+use smallvec::SmallVec;
 use smil_model::Duplicate;
 use std::alloc::{AllocError, Global};
 use std::marker::Model;
@@ -17,7 +17,7 @@ use std::marker::Model;
 /// for which nothing was kept yet have no list.
 #[derive(Drop)]
 pub struct Side<T: Instant> {
-    items: Vec<ItemTimes>,
+    items: SmallVec<ItemTimes, 1>,
     idle: usize,
     sorted: SortedList<T>,
 }
@@ -37,7 +37,7 @@ impl<T: Instant> Model for Side<T> {
 impl<T: Instant> Duplicate for Side<T> {
     fn copy(&self) -> Result<Self, AllocError> {
         Ok(Side {
-            items: copy_each(*self.items.allocator(), &self.items)?,
+            items: copy_items(*self.items.allocator(), &self.items)?,
             idle: self.idle,
             sorted: self.sorted.copy()?,
         })
@@ -50,7 +50,7 @@ impl<T: Instant> Side<T> {
         ensures { result ≡ [] }
     {
         Side {
-            items: Vec::new(alloc),
+            items: SmallVec::new(alloc),
             idle: 0,
             sorted: SortedList::new(alloc),
         }
@@ -80,7 +80,8 @@ impl<T: Instant> Side<T> {
         ensures err { OnErr result (self.new ≡ self.old) }
     {
         lay_out(&mut self.items, &mut self.idle, item)?;
-        add(&mut self.items[item], &mut self.sorted, last)
+        let list = self.items.get_mut(item).unwrap();
+        add(list, &mut self.sorted, last)
     }
 
     /// Takes out of an item what is of places before this one. It takes no memory.
@@ -183,8 +184,23 @@ impl<T: Instant> Side<T> {
     }
 }
 
+// The copies of the times of items.
+fn copy_items(alloc: Global, items: &[ItemTimes]) -> Result<SmallVec<ItemTimes, 1>, AllocError>
+    ensures { IfOk result (λ copies. copies.items ≡ items.now) }
+{
+    let mut copies = SmallVec::new(alloc);
+    for item in items {
+        copies.push(item.copy()?)?;
+    }
+    Ok(copies)
+}
+
 // Makes lists for the items up to this one. Where memory runs out all items are as before.
-fn lay_out(items: &mut Vec<ItemTimes>, idle: &mut usize, item: usize) -> Result<(), AllocError>
+fn lay_out(
+    items: &mut SmallVec<ItemTimes, 1>,
+    idle: &mut usize,
+    item: usize,
+) -> Result<(), AllocError>
     requires { item < length (with_idle idle.old items.old.items) }
     ensures same { with_idle idle.new items.new.items ≡ with_idle idle.old items.old.items }
     ensures ok { OnOk result (item < length items.new.items) }

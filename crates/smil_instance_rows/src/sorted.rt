@@ -4,6 +4,7 @@ ghost use Rattle.std.specs.Prelude.{◌≡◌, List, [], true, OnOk, OnErr, not,
 ghost use Rattle.smil_model.specs.Rising.{IsRising, IsPlaceFrom, put_in, taken_out};
 
 use super::instant::Instant;
+use super::short_list::ShortList;
 use smil_model::Duplicate;
 use std::alloc::{AllocError, Global};
 use std::marker::Model;
@@ -45,7 +46,7 @@ pub fn put_in<T: Instant>(values: &mut Vec<T>, value: T) -> Result<(), AllocErro
 /// Values in rising order, repetitions kept; seen as their list.
 #[derive(Drop)]
 pub struct SortedList<T: Instant> {
-    values: Vec<T>,
+    values: ShortList<T>,
 }
 
 impl<T: Instant> Model for SortedList<T> {
@@ -54,15 +55,15 @@ impl<T: Instant> Model for SortedList<T> {
 
     ghost Value = { List T };
 
-    ghost view = { λ a. a.values.items };
+    ghost view = { λ a. a.values };
 
-    ghost invariant = { λ a. IsRising T.at_most a.values.items };
+    ghost invariant = { λ a. IsRising T.at_most a.values };
 }
 
 impl<T: Instant> Duplicate for SortedList<T> {
     fn copy(&self) -> Result<Self, AllocError> {
         Ok(SortedList {
-            values: Vec::from_slice(*self.values.allocator(), &self.values)?,
+            values: self.values.copy()?,
         })
     }
 }
@@ -73,7 +74,7 @@ impl<T: Instant> SortedList<T> {
         ensures { result ≡ [] }
     {
         SortedList {
-            values: Vec::new(alloc),
+            values: ShortList::new(alloc),
         }
     }
 
@@ -82,7 +83,9 @@ impl<T: Instant> SortedList<T> {
         ensures ok { OnOk result (self.new ≡ put_in T.at_most value self.old) }
         ensures err { OnErr result (self.new ≡ self.old) }
     {
-        put_in(&mut self.values, value)
+        let place = place_from(self.values.as_slice(), value);
+        self.values.insert(place, value)?;
+        Ok(())
     }
 
     /// Takes a value out once, if it is there. It takes no memory.
@@ -90,7 +93,7 @@ impl<T: Instant> SortedList<T> {
         ensures { self.new ≡ taken_out T.at_most value self.old }
     {
         let place = place_from(self.values.as_slice(), value);
-        if place < self.values.len() && !value.is_before(self.values[place]) {
+        if place < self.values.len() && !value.is_before(self.values.at(place)) {
             self.values.remove(place);
         }
     }
@@ -127,6 +130,6 @@ impl<T: Instant> SortedList<T> {
     fn at(&self, place: usize) -> Option<T>
         ensures { result ≡ slice_get self.now place }
     {
-        self.values.get(place).copied()
+        self.values.as_slice().get(place).copied()
     }
 }
