@@ -12,6 +12,7 @@ ghost use Rattle.smil_model.specs.happening.Resolution.{diary_of};
 ghost use Rattle.smil_model.specs.shown.Orders.{Presentation, course_of, as_of};
 ghost use Rattle.smil_diary.specs.declared.fault.BookFault.{BookFault as AnyFault};
 ghost use Rattle.smil_diary.specs.declared.fault.BookFault.TheVariants as book_fault;
+ghost use Rattle.smil_graph.specs.Graph.{document_of};
 ghost use Rattle.smil_stretch.specs.Clocks.{AreClocksOf};
 ghost use Rattle.smil_past.specs.Past as past_of;
 ghost use Rattle.smil_element.specs.Parts.{coming_meant};
@@ -27,6 +28,7 @@ use super::table::{Since, Table};
 use super::touched::touch;
 use smil_diary::{Book, BookFault};
 use smil_element::DueChange;
+use smil_graph::Graph;
 use smil_interval::Steps;
 use smil_laws::courses::{
     ended_is_diary, reached_is_past, reaches_further, reaches_over_quiet, too_long_is_full,
@@ -35,7 +37,7 @@ use smil_laws::firsts::first_is_of_element;
 use smil_laws::near::resolved_is_near;
 use smil_laws::stays::{log_may_be_longer, time_passes_quietly};
 use smil_model::{Doc, Duplicate, Entry, Interval, Log, LogEntry, PlaceSet, Serials};
-use smil_past::{GraphedTree, Past};
+use smil_past::Past;
 use smil_rounds::groups::{append_all, fill_group};
 use smil_stretch::Clocks;
 use smil_tree::Tree;
@@ -321,31 +323,32 @@ impl<T: Table> Cells<T> {
             (any_interval doc.now.nodes (interval_at cells) ≤ steps.new - steps.old)) }
     {
         let tree = Tree::of_doc(self.alloc, doc)?;
-        self.rebuilt_over(GraphedTree::of(self.alloc, tree)?, len, steps)
+        self.rebuilt_over(Graph::of(self.alloc, tree)?, len, steps)
     }
 
-    /// The cells of a document whose graph was made, with the first entries of this diary and what
+    /// The cells of the document of a graph, with the first entries of this diary and what
     /// they name of this log, unless memory runs out.
     pub fn rebuilt_over<L: Ledger>(
         &self,
-        graphed: GraphedTree,
+        graph: Graph,
         len: usize,
         steps: &mut Steps<L>,
     ) -> Result<Self, AllocError>
-        requires rebuild { MayRebuild self.now graphed.tree len }
-        requires graph { graphed.graph.nodes ≡ graphed.tree.nodes }
-        ensures rebuilt { IfOk result (IsRebuilt self.now graphed.tree len) }
+        requires { MayRebuild self.now (document_of graph) len }
+        ensures rebuilt { IfOk result (IsRebuilt self.now (document_of graph) len) }
         ensures counted { steps.old ≤ steps.new }
         ensures most { WhereTold T.counts (steps.new - steps.old
-            ≤ length (elements graphed.tree.nodes)) }
+            ≤ length (elements graph.nodes)) }
         ensures least { IfOk result (λ cells. WhereTold T.counts
-            (any_interval graphed.tree.nodes (interval_at cells) ≤ steps.new - steps.old)) }
+            (any_interval graph.nodes (interval_at cells) ≤ steps.new - steps.old)) }
     {
         reached_is_past();
         resolved_is_near();
         self.past.possible();
         let log = heard_log(self.alloc, self.past.log(), self.past.book(), len)?;
-        let past = Past::of(self.alloc, graphed, log, &self.past.book().entries()[..len])?;
+        let past = self
+            .past
+            .revised(graph, log, &self.past.book().entries()[..len])?;
         let moment = last_moment(&past);
         Cells::over(self.alloc, past, moment, steps)
     }

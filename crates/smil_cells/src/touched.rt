@@ -173,6 +173,7 @@ fn plays_one(kind: Kind) -> bool
 }
 
 // Puts the places of a node and of those below it in.
+#[inline(never)]
 fn touch_within(tree: &Tree, who: u32, touched: &mut PlaceSet) -> Result<(), AllocError>
     requires { IsSome (node_at tree.now.nodes who) }
     ensures more { OnOk result (StayIn touched.old touched.new) }

@@ -154,9 +154,6 @@ module _ (ns : List Node) where
   pub time_parent_reduced : (s : ℕ) → time_parent rs s ≡ option_map reduced (time_parent ns s)
   time_parent_reduced s = ap (find is_element) (ancestors_reduced s) ∙ find_reduced is_element is_element (λ n. refl) (ancestors ns s)
 
-  pub node_at_reduced : (s : ℕ) → node_at rs s ≡ option_map reduced (node_at ns s)
-  node_at_reduced s = find_reduced (λ (n : Node). n.serial == s) (λ (n : Node). n.serial == s) (λ n. refl) ns
-
   pub elements_reduced : elements rs ≡ all_reduced (elements ns)
   elements_reduced = filter_reduced is_element is_element (λ n. refl) ns
 

@@ -1,7 +1,6 @@
 -- What a graph keeps of a document it keeps of each one that is alike.
 use Rattle.std.proofs.Common.{◌≡◌, refl, sym, ◌∙◌, ap, subst, ℕ, suc, List, [], ◌∷◌, length, Bool, true, false, Option, Some, None, arith}
 use Rattle.std.specs.Prelude.{cond, ◌==◌, ◌&&◌, drop, filter, option_map, reverse, slice_get, slice_index_or}
-use Rattle.std.specs.FinMap.{get}
 use Rattle.std.specs.List.{AllByRecursion, range_with_len}
 use Rattle.std.specs.List.Sorted.{IsPermutation}
 use Rattle.smil_model.specs.declared.document.Edge.{Edge}
@@ -12,14 +11,13 @@ use Rattle.smil_model.specs.document.Document.{Document, elements, is_element, n
 use Rattle.smil_model.specs.document.Valid.{IsDistinct}
 use Rattle.smil_model.specs.reach.Reach.{is_option}
 use Rattle.smil_laws.proofs.AsideDocuments.{each_drop, each_reverse, find_each}
-use Rattle.smil_laws.proofs.RoundsRest.{find-serial}
 use Rattle.smil_tree.proofs.NodeFamilies.{node_of_place}
 use Rattle.smil_graph.specs.declared.tables.Tables.{Tables}
 use Rattle.smil_graph.specs.Graph.{follows_unlooped, is_looped_item, readers_of, IsGraphOrder}
-use Rattle.smil_graph.specs.Places.{at_place, is_element_at, reads_place, up, IsIndex, IsTable, AreTimeChildren}
+use Rattle.smil_graph.specs.Places.{at_place, is_element_at, reads_place, up, IsTable, AreTimeChildren}
 use Rattle.smil_graph.specs.Reduced.{all_reduced, reduced}
 use Rattle.smil_graph.specs.Tables.{waits, AreHeads, AreMarks, AreReaders, AreTables, AreWaiting}
-use Rattle.smil_graph.proofs.AlikeDocuments.{count_reduced, element_at_reduced, element_serials_reduced, filter_each, follows_reduced, get_reduced, is_element_at_reduced, mark_reduced, node_at_reduced, readers_reduced, reads_place_reduced, time_parent_reduced, waits_reduced}
+use Rattle.smil_graph.proofs.AlikeDocuments.{count_reduced, element_at_reduced, element_serials_reduced, filter_each, follows_reduced, get_reduced, is_element_at_reduced, mark_reduced, readers_reduced, reads_place_reduced, time_parent_reduced, waits_reduced}
 
 each_from : (P : Node → Type 0) (ns : List Node) → ((p : ℕ) (n : Node) → slice_get ns p ≡ Some n → P n) → AllByRecursion P ns
 each_from P [] f = tt
@@ -41,9 +39,6 @@ known_place : (ns : List Node) → IsDistinct ns → (o : Option ℕ) → IsKnow
 known_place ns distinct None n q = cc
 known_place ns distinct (Some p) n q = node_of_place ns p n distinct q
 
-known_serial : (ns : List Node) (s : ℕ) → IsKnown ns (node_at ns s)
-known_serial ns s n q = ap (node_at ns) (find-serial s ns n q) ∙ q
-
 known_parent : (ns : List Node) → IsDistinct ns → (s : ℕ) → IsKnown ns (time_parent ns s)
 known_parent ns distinct s n q =
     find_each (λ (m : Node). node_at ns m.serial ≡ Some m) is_element (drop 1 (upwards (reverse ns) s)) n
@@ -61,20 +56,20 @@ known_same ns (Some n) (Some m) k l e =
     sym (k n refl) ∙ ap (λ (x : Node). node_at ns x.serial) same ∙ l m refl
 
 -- what is the same of reduced nodes is the same of nodes that are alike
-across : {A : Type 0} (f : List Node → A) → ((ns : List Node) → f (all_reduced ns) ≡ f ns) → (old new : List Node) → all_reduced old ≡ all_reduced new → f old ≡ f new
+pub across : {A : Type 0} (f : List Node → A) → ((ns : List Node) → f (all_reduced ns) ≡ f ns) → (old new : List Node) → all_reduced old ≡ all_reduced new → f old ≡ f new
 across f same old new alike = sym (same old) ∙ ap f alike ∙ same new
 
-across_node : (f : List Node → Option Node) → ((ns : List Node) → f (all_reduced ns) ≡ option_map reduced (f ns)) → (old new : List Node) → all_reduced old ≡ all_reduced new → option_map reduced (f old) ≡ option_map reduced (f new)
+pub across_node : (f : List Node → Option Node) → ((ns : List Node) → f (all_reduced ns) ≡ option_map reduced (f ns)) → (old new : List Node) → all_reduced old ≡ all_reduced new → option_map reduced (f old) ≡ option_map reduced (f new)
 across_node f same old new alike = sym (same old) ∙ ap f alike ∙ same new
+
+-- a node that is the same in what a graph reads
+pub twin : (a : Option Node) (m : Node) → option_map reduced a ≡ Some (reduced m) → (n : Node) × (a ≡ Some n) × (reduced n ≡ reduced m)
+twin None m q = cc
+twin (Some n) m q = let same : reduced n ≡ reduced m = cc in (n, refl, same)
 
 module _ (old new : List Node) (alike : all_reduced old ≡ all_reduced new) where
   long : length old ≡ length new
   long = across length count_reduced old new alike
-
-  -- a node that is the same in what a graph reads
-  twin : (a : Option Node) (m : Node) → option_map reduced a ≡ Some (reduced m) → (n : Node) × (a ≡ Some n) × (reduced n ≡ reduced m)
-  twin None m q = cc
-  twin (Some n) m q = let same : reduced n ≡ reduced m = cc in (n, refl, same)
 
   twin_at : (p : ℕ) (m : Node) → slice_get new p ≡ Some m → (n : Node) × (slice_get old p ≡ Some n) × (reduced n ≡ reduced m)
   twin_at p m at = twin (slice_get old p) m (across_node (λ ns. slice_get ns p) (λ ns. get_reduced ns p) old new alike ∙ ap (option_map reduced) at)
@@ -106,13 +101,6 @@ module _ (old new : List Node) (alike : all_reduced old ≡ all_reduced new) whe
   }
 
   module _ (distinct : IsDistinct new) where
-    index_alike : (index : ℕ → Option ℕ) → IsIndex old (node_at old) index → IsIndex new (node_at new) index
-    index_alike index is = record {
-      node = λ s. known_same new (node_at new s) (at_place new (index s)) (known_serial new s) (known_place new distinct (index s))
-          (sym (across_node (λ ns. node_at ns s) (λ ns. node_at_reduced ns s) old new alike) ∙ ap (option_map reduced) (is.node s) ∙ place_alike (index s));
-      below = λ s p q. omega (arith, is.below s p q, long);
-    }
-
     table_alike : (table : List (Option ℕ)) → IsTable old (λ n. time_parent old n.serial) table → IsTable new (λ n. time_parent new n.serial) table
     table_alike table is = record {
       count = is.count ∙ long;
@@ -153,7 +141,6 @@ module _ (old new : List Node) (alike : all_reduced old ≡ all_reduced new) whe
 
 pub tables_alike : (old new : Document) → IsDistinct new.nodes → all_reduced old.nodes ≡ all_reduced new.nodes → (t : Tables) → AreTables old t → AreTables new t
 tables_alike old new distinct alike t are = record {
-  indexed = index_alike old.nodes new.nodes alike distinct (get t.places) are.indexed;
   above = table_alike old.nodes new.nodes alike distinct t.time_parents.items are.above;
   count = are.count ∙ long old.nodes new.nodes alike;
   under = children_alike old.nodes new.nodes alike t.time_parents.items t.time_children.items are.under;

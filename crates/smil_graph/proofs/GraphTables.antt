@@ -13,10 +13,9 @@ use Rattle.smil_model.specs.document.Dependencies.{feeds, feeds_node, has_implic
 use Rattle.smil_model.specs.document.Valid.{IsDistinct}
 use Rattle.smil_model.specs.reach.Reach.{reads, reads_node, is_option}
 use Rattle.smil_model.specs.document.Closure.{has}
-use Rattle.smil_model.specs.FirstPlaces.{AreFirstPlaces}
 use Rattle.smil_model.proofs.FirstPlaces.{position_cons}
 use Rattle.smil_graph.specs.Links.{row, links, that_have, IsRising, AreRows, AreLevels, StayBelow}
-use Rattle.smil_graph.specs.Places.{at_place, up, is_element_at, named_by, target_place, source_of, leads_to_place, follows, hears, element_follows, element_hears, feeds_from, reads_from, feeds_place, reads_place, IsTable, IsIndex, AreTimeChildren}
+use Rattle.smil_graph.specs.Places.{at_place, up, is_element_at, named_by, target_place, source_of, leads_to_place, follows, hears, element_follows, element_hears, feeds_from, reads_from, feeds_place, reads_place, IsTable, IsIndex, AreTimeChildren, place_of}
 use Rattle.smil_graph.specs.Tables.{AreElementLevels, AreHeads, AreReaders, with_serial, serials_of_places}
 use Rattle.smil_graph.proofs.PlaceLists.{from_place}
 use Rattle.smil_graph.proofs.NodesByPlace.{there, there_below}
@@ -237,11 +236,11 @@ first_in s [] = refl
 first_in s (n ∷ ns) =
     position_cons (λ (m : Node). m.serial == s) n ns ∙ ap (λ o. cond (n.serial == s) (Some 0) (option_map suc o)) (first_in s ns)
 
--- a table of the first places is an index
-pub first_indexed : (ns : List Node) (index : ℕ → Option ℕ) → AreFirstPlaces (λ (n : Node). n.serial) index ns → IsIndex ns (node_at ns) index
-first_indexed ns index are = record {
-  node = λ s. (placed ns).node s ∙ ap (at_place ns) (sym (are s ∙ first_in s ns));
-  below = λ s p q. (placed ns).below s p (sym (are s ∙ first_in s ns) ∙ q);
+-- the places of serials are an index
+pub all_placed : (ns : List Node) → IsIndex ns (node_at ns) (place_of ns)
+all_placed ns = record {
+  node = λ s. (placed ns).node s ∙ ap (at_place ns) (sym (first_in s ns));
+  below = λ s p q. (placed ns).below s p (sym (first_in s ns) ∙ q);
 }
 
 pub fed_stay : (feeders fed : List (List ℕ)) → length fed ≡ length feeders → ((i : ℕ) → i < length feeders → row fed i ≡ that_have feeders i) → StayBelow (length fed) fed

@@ -5,15 +5,20 @@ use Rattle.std.specs.List.Sorted.{IsPermutation}
 use Rattle.smil_model.specs.declared.document.Node.{Node}
 use Rattle.smil_model.specs.declared.document.Item.{Item}
 use Rattle.smil_model.specs.declared.document.Edge.{Edge}
-use Rattle.smil_model.specs.document.Document.{elements, node_at, has_serial, is_time_child, previous_in_seq, serials}
+use Rattle.smil_model.specs.document.Document.{Document, elements, node_at, has_serial, is_time_child, previous_in_seq, serials}
 use Rattle.smil_model.specs.document.Defaults.{items_of}
 use Rattle.smil_model.specs.document.Dependencies.{has_implicit_duration, all_items, is_sync_with, is_looped, leads_to}
 use Rattle.smil_model.specs.reach.Reach.{reads}
 
--- the nodes of a document with an order of the elements
+-- the nodes of a document and its next serial, with an order of the elements
 pub record OrderedNodes : Type 0 where
   pub nodes : List Node
+  pub next : ℕ
   pub order : List ℕ
+
+-- that document
+abbrev pub document_of : OrderedNodes → Document
+document_of graph = record { nodes = graph.nodes; next = graph.next }
 
 -- ---- looped references
 

@@ -1,6 +1,6 @@
 -- A document by places in document order, from 0.
 use Rattle.std.specs.Prelude.{◌≡◌, ℕ, ◌<◌, List, [], ◌∷◌, length, filter, map, Bool, false, ◌&&◌, ◌||◌, ◌==◌, if◌then◌else◌, Option, Some, None, slice_get, slice_index_or}
-use Rattle.std.specs.List.{list_any, range_with_len}
+use Rattle.std.specs.List.{list_any, position, range_with_len}
 use Rattle.smil_model.specs.declared.document.Node.{Node}
 use Rattle.smil_model.specs.declared.document.Item.{Item}
 use Rattle.smil_model.specs.declared.document.Edge.{Edge}
@@ -16,6 +16,10 @@ use Rattle.smil_graph.specs.Links.{row}
 abbrev pub at_place : List Node → Option ℕ → Option Node
 at_place nodes None = None
 at_place nodes (Some place) = slice_get nodes place
+
+-- the place of the node with a serial
+abbrev pub place_of : List Node → ℕ → Option ℕ
+place_of nodes serial = position (λ (n : Node). n.serial == serial) nodes
 
 -- what a table has at a place
 abbrev pub up : List (Option ℕ) → ℕ → Option ℕ

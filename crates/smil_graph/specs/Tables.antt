@@ -7,14 +7,14 @@ use Rattle.smil_model.specs.declared.document.Item.{Item}
 use Rattle.smil_model.specs.declared.document.Item.TheVariants.{Key}
 use Rattle.smil_model.specs.declared.document.Edge.{Edge}
 use Rattle.smil_model.specs.declared.document.Edge.TheVariants.{Begin, End}
-use Rattle.smil_model.specs.document.Document.{Document, is_element, elements, serials, node_at, time_parent, has_kind, is_seq_kind, is_excl_kind}
+use Rattle.smil_model.specs.document.Document.{Document, is_element, elements, serials, time_parent, has_kind, is_seq_kind, is_excl_kind}
 use Rattle.smil_model.specs.document.Dependencies.{feeds, leads_to, all_items}
 use Rattle.smil_model.specs.document.Closure.{closure, has}
 use Rattle.smil_model.specs.reach.Reach.{reads, is_near, is_key_item}
 use Rattle.smil_model.specs.FirstPlaces.{AreFirstPlaces}
 use Rattle.smil_graph.specs.declared.tables.Tables.{Tables}
 use Rattle.smil_graph.specs.Links.{row, links, AreRows}
-use Rattle.smil_graph.specs.Places.{reads_place, is_element_at, IsIndex, IsTable, AreTimeChildren}
+use Rattle.smil_graph.specs.Places.{reads_place, is_element_at, IsTable, AreTimeChildren}
 use Rattle.smil_graph.specs.Graph.{is_looped_item, readers_of, IsGraphOrder}
 use Rattle.smil_graph.specs.declared.waiting.TheConstants.{KEYS}
 use Rattle.smil_model.specs.document.Defaults.{items_of, items_or}
@@ -135,10 +135,9 @@ AreRanks order ranks = AreFirstPlaces (λ (s : ℕ). s) ranks order
 
 -- ---- tables
 
--- what is kept: places by serial, time parents, time children, looped begins and ends,
+-- what is kept: time parents, time children, looped begins and ends,
 -- who reads whom, who waits for which key, and an order with ranks
 pub record AreTables (document : Document) (t : Tables) : Type 0 where
-  pub indexed : IsIndex document.nodes (node_at document.nodes) (get t.places)
   pub above : IsTable document.nodes (λ n. time_parent document.nodes n.serial) t.time_parents.items
   pub count : length t.time_children.items ≡ length document.nodes
   pub under : AreTimeChildren document.nodes t.time_parents.items t.time_children.items

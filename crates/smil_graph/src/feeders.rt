@@ -15,7 +15,8 @@ ghost use Rattle.smil_model.specs.document.Valid.{IsNumberedTree, IsDistinct};
 use super::outline::{TimeTree, is_element, place_at, previous_in_seqs};
 use super::row::{push_all, push_one, row_at};
 use smil_duration::takes_implicit;
-use smil_model::{Attrs, Bytes, Doc, GrowingList, Item, Items, Node};
+use smil_model::{Attrs, Bytes, GrowingList, Item, Items, Node};
+use smil_tree::Tree;
 use std::alloc::{AllocError, Global};
 use std::collections::HashMap;
 
@@ -57,16 +58,17 @@ pub fn feeders(
 // The same rows by an index.
 fn feeder_rows(
     alloc: Global,
-    doc: &Doc,
+    tree: &Tree,
     index: &Index<'_, '_>,
 ) -> Result<Vec<GrowingList<usize>>, AllocError>
-    ensures { IfOk result (λ rows. AreRows (length doc.now.nodes)
+    ensures { IfOk result (λ rows. AreRows (length tree.now.nodes)
         (λ j i. element_follows (row index.now.children.now j) (up index.now.previous.now j)
-        (λ id. get_by (λ k. bytes_eq id k.now) index.now.ids.now) (slice_get doc.now.nodes j) i)
+        (λ id. get_by (λ k. bytes_eq id k.now) index.now.ids.now) (slice_get tree.now.nodes j) i)
         rows.items) }
 {
-    let mut rows = Vec::with_capacity(alloc, doc.len())?;
-    for (place, node) in doc.nodes().iter().enumerate() {
+    let mut rows = Vec::with_capacity(alloc, tree.len())?;
+    for place in 0..tree.len() {
+        let node = tree.at(place).unwrap();
         let mut row = GrowingList::new(alloc);
         push_feeders(&mut row, index, node, place)?;
         rows.push(row)?;
@@ -78,19 +80,20 @@ fn feeder_rows(
 /// whose events it hears.
 pub fn sources(
     alloc: Global,
-    doc: &Doc,
+    tree: &Tree,
     feeders: &[GrowingList<usize>],
     ids: &HashMap<&[u8], usize>,
 ) -> Result<Vec<GrowingList<usize>>, AllocError>
-    requires distinct { IsDistinct doc.now.nodes }
-    requires feeders { AreRows (length doc.now.nodes) (feeds_place doc.now.nodes) feeders.now }
-    requires ids { IsIndex doc.now.nodes (model.element_named doc.now.nodes)
+    requires distinct { IsDistinct tree.now.nodes }
+    requires feeders { AreRows (length tree.now.nodes) (feeds_place tree.now.nodes) feeders.now }
+    requires ids { IsIndex tree.now.nodes (model.element_named tree.now.nodes)
         (λ id. get_by (λ k. bytes_eq id k.now) ids.now) }
-    ensures { IfOk result (λ rows. AreRows (length doc.now.nodes) (reads_place doc.now.nodes)
+    ensures { IfOk result (λ rows. AreRows (length tree.now.nodes) (reads_place tree.now.nodes)
         rows.items) }
 {
-    let mut rows = Vec::with_capacity(alloc, doc.len())?;
-    for (place, node) in doc.nodes().iter().enumerate() {
+    let mut rows = Vec::with_capacity(alloc, tree.len())?;
+    for place in 0..tree.len() {
+        let node = tree.at(place).unwrap();
         let mut row = GrowingList::new(alloc);
         push_all(&mut row, row_at(feeders, place))?;
         push_heard_by(&mut row, node, ids, place)?;

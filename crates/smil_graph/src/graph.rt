@@ -1,14 +1,13 @@
 //! The graph of a document.
 
 ghost use Rattle.std.specs.Prelude.{◌≡◌, ◌==◌, ◌++◌, ℕ, List, Some, true, slice_get, OnOk, OnErr, IfOk};
-ghost use Rattle.std.specs.FinMap.{get};
 ghost use Rattle.std.specs.List.{position};
 ghost use Rattle.smil_model.specs.document.Valid.{IsNumberedTree};
 ghost use Rattle.smil_model.specs.reach.Reach as model;
-ghost use Rattle.smil_graph.specs.Graph.{looped_at, readers_of, IsGraphOrder};
+ghost use Rattle.smil_graph.specs.Graph.{document_of, looped_at, readers_of, IsGraphOrder};
 ghost use Rattle.smil_model.specs.declared.document.Node.{Node as AnyNode};
 ghost use Rattle.smil_graph.specs.Tables.{marked_at, row_of, element_place, reach_of, AreElements, AreOf, AreTables};
-ghost use Rattle.smil_graph.specs.Places.{is_element_at};
+ghost use Rattle.smil_graph.specs.Places.{is_element_at, place_of};
 ghost use Rattle.smil_graph.specs.Reduced.{all_reduced};
 
 use super::alike::are_alike;
@@ -17,16 +16,17 @@ use super::outline::{TimeTree, is_element_at};
 use super::row::row_at;
 use super::search::search;
 use super::tables::{Tables, serials_at, tables_of};
-use smil_model::{Doc, Duplicate, Edge, GrowingList, SerialTable, Serials};
+use smil_model::{Duplicate, Edge, GrowingList, Serials};
 use smil_tree::Tree;
 use std::alloc::{AllocError, Global};
 use std::marker::Model;
 use std::rc::Rc;
 
-/// The graph of a document, seen as the document's nodes with an order of the elements: which
-/// elements read which, which references are looped, and in what order to take the elements.
+/// A document with its graph, seen as the document's nodes and next serial with an order of the
+/// elements: which elements read which, which references are looped, and in what order to take the
+/// elements.
 pub struct Graph {
-    doc: Doc,
+    tree: Tree,
     tables: Rc<Tables>,
     alloc: Global,
 }
@@ -35,7 +35,7 @@ impl Drop for Graph {
     // Dropped by a call of its own, not field by field in each function that drops one.
     fn drop(self) {
         let Graph {
-            doc: _doc,
+            tree: _tree,
             tables: _tables,
             alloc: _alloc,
         } = self;
@@ -49,15 +49,19 @@ impl Model for Graph {
 
     ghost Value = { OrderedNodes };
 
-    ghost view = { λ a. record { nodes = a.doc.nodes; order = a.tables.value.order } };
+    ghost view = { λ a. record {
+      nodes = a.tree.nodes;
+      next = a.tree.next;
+      order = a.tables.value.order;
+    } };
 
-    ghost invariant = { λ a. IsNumberedTree a.doc × AreTables a.doc a.tables.value };
+    ghost invariant = { λ a. IsNumberedTree a.tree × AreTables a.tree a.tables.value };
 }
 
 impl Duplicate for Graph {
     fn copy(&self) -> Result<Self, AllocError> {
         Ok(Graph {
-            doc: self.doc.copy()?,
+            tree: self.tree.copy()?,
             tables: self.tables.clone()?,
             alloc: self.alloc,
         })
@@ -65,58 +69,51 @@ impl Duplicate for Graph {
 }
 
 impl Graph {
-    /// The graph of the document that a tree stands for, unless memory runs out. The time grows
-    /// about as the number of nodes and references.
-    pub fn of(alloc: Global, tree: &Tree) -> Result<Graph, AllocError>
-        ensures { IfOk result (λ graph. graph.nodes ≡ tree.now.nodes) }
+    /// A document with its graph, unless memory runs out. The time grows about as the number of
+    /// nodes and references; no node is copied.
+    pub fn of(alloc: Global, tree: Tree) -> Result<Graph, AllocError>
+        ensures { IfOk result (λ graph. document_of graph ≡ tree) }
     {
-        Graph::over(alloc, tree.doc_copy()?)
+        tree.valid();
+        let tables = Rc::new(alloc, tables_of(alloc, &tree)?)?;
+        Ok(Graph {
+            tree,
+            tables,
+            alloc,
+        })
     }
 
-    /// The graph of a document whose nodes are a numbered tree, as those of each valid document
-    /// are; unless memory runs out. It keeps a copy of the document. The time grows about as the
-    /// number of nodes and references.
-    pub fn of_doc(alloc: Global, doc: &Doc) -> Result<Graph, AllocError>
-        requires { IsNumberedTree doc.now }
-        ensures { IfOk result (λ graph. graph.nodes ≡ doc.now.nodes) }
+    /// The graph of an edited document, by this one of the document before; unless memory runs out.
+    /// Where the two documents are alike in what a graph reads of them, as `are_alike` says, it
+    /// takes no memory and a step for each node and item, and else what `of` takes.
+    pub fn revised(&self, after: Tree) -> Result<Graph, AllocError>
+        ensures { IfOk result (λ graph. document_of graph ≡ after) }
     {
-        Graph::over(alloc, doc.copy()?)
-    }
-
-    // The graph of a document that it keeps.
-    fn over(alloc: Global, doc: Doc) -> Result<Graph, AllocError>
-        requires { IsNumberedTree doc }
-        ensures { IfOk result (λ graph. graph.nodes ≡ doc.nodes) }
-    {
-        let tables = Rc::new(alloc, tables_of(alloc, &doc)?)?;
-        Ok(Graph { doc, tables, alloc })
-    }
-
-    /// The graph of an edited document, by that of the document before; unless memory runs out.
-    /// Where the two are alike in what a graph reads of them, as `are_alike` says, it takes time and
-    /// memory for a copy of the document alone, and else as `of` does.
-    pub fn revised(&self, before: &Tree, after: &Tree) -> Result<Graph, AllocError>
-        requires { self.now.nodes ≡ before.now.nodes }
-        ensures { IfOk result (λ graph. graph.nodes ≡ after.now.nodes) }
-    {
-        if are_alike(before, after) {
-            self.shared(after.doc_copy()?)
+        if are_alike(&self.tree, &after) {
+            self.shared(after)
         } else {
             Graph::of(self.alloc, after)
         }
     }
 
     // The graph of a document that is alike.
-    fn shared(&self, doc: Doc) -> Result<Graph, AllocError>
-        requires numbered { IsNumberedTree doc }
-        requires alike { all_reduced self.now.nodes ≡ all_reduced doc.nodes }
-        ensures { IfOk result (λ graph. graph.nodes ≡ doc.nodes) }
+    fn shared(&self, after: Tree) -> Result<Graph, AllocError>
+        requires { all_reduced self.now.nodes ≡ all_reduced after.nodes }
+        ensures { IfOk result (λ graph. document_of graph ≡ after) }
     {
+        after.valid();
         Ok(Graph {
-            doc,
+            tree: after,
             tables: self.tables.clone()?,
             alloc: self.alloc,
         })
+    }
+
+    /// The document. It takes no memory.
+    pub fn tree(&self) -> &Tree
+        ensures { result.now ≡ document_of self.now }
+    {
+        &self.tree
     }
 
     /// Whether an item, counted from 0, of the begins or ends of an element is a looped reference;
@@ -126,7 +123,7 @@ impl Graph {
         ensures { result ≡ looped_at self.now.nodes serial side item }
     {
         let tables = self.tables.as_ref();
-        let place = place_of(&tables.places, serial);
+        let place = self.tree.position(serial);
         match side {
             Edge::Begin => is_marked(tables.begins.as_slice(), place, item),
             Edge::End => is_marked(tables.ends.as_slice(), place, item),
@@ -140,7 +137,7 @@ impl Graph {
         ensures { result.now ≡ readers_of self.now.nodes serial }
     {
         let tables = self.tables.as_ref();
-        row_of(tables.readers.as_slice(), place_of(&tables.places, serial))
+        row_of(tables.readers.as_slice(), self.tree.position(serial))
     }
 
     /// The elements in an order in which each dependency that is not looped goes forward. It takes
@@ -159,7 +156,7 @@ impl Graph {
         ensures { result ≡ position (λ s. s == serial) self.now.order }
     {
         let tables = self.tables.as_ref();
-        place_of(&tables.ranks, serial)
+        tables.ranks.get(serial)
     }
 
     /// Appends the reach of an element, in document order; nothing for a serial of no element.
@@ -171,9 +168,9 @@ impl Graph {
         ensures err { OnErr result (out.new ≡ out.old) }
     {
         let tables = self.tables.as_ref();
-        match element_place(&self.doc, &tables.places, serial) {
+        match element_place(&self.tree, serial) {
             Some(place) => {
-                let reach = reach_at(self.alloc, &self.doc, tables, place)?;
+                let reach = reach_at(self.alloc, &self.tree, tables, place)?;
                 out.append(reach.slice())
             }
             None => Ok(()),
@@ -189,61 +186,59 @@ impl Graph {
     {
         let tables = self.tables.as_ref();
         let starts = row_at(tables.waiting.as_slice(), key as usize);
-        let reach = reach_from(self.alloc, &self.doc, tables, starts)?;
+        let reach = reach_from(self.alloc, &self.tree, tables, starts)?;
         out.append(reach.slice())
     }
 }
 
 // The reach of the element at a place, in document order.
-fn reach_at(alloc: Global, doc: &Doc, tables: &Tables, place: usize) -> Result<Serials, AllocError>
-    requires tree { IsNumberedTree doc.now }
-    requires tables { AreTables doc.now tables.now }
-    requires element { is_element_at doc.now.nodes place ≡ true }
-    ensures { IfOk result (λ reach. (x : AnyNode) → slice_get doc.now.nodes place ≡ Some x
-        → reach ≡ model.down doc.now.nodes x.serial) }
+fn reach_at(
+    alloc: Global,
+    tree: &Tree,
+    tables: &Tables,
+    place: usize,
+) -> Result<Serials, AllocError>
+    requires tree { IsNumberedTree tree.now }
+    requires tables { AreTables tree.now tables.now }
+    requires element { is_element_at tree.now.nodes place ≡ true }
+    ensures { IfOk result (λ reach. (x : AnyNode) → slice_get tree.now.nodes place ≡ Some x
+        → reach ≡ model.down tree.now.nodes x.serial) }
 {
-    let tree = TimeTree {
-        doc,
+    let times = TimeTree {
+        doc: tree,
         parents: tables.time_parents.as_slice(),
         children: tables.time_children.as_slice(),
     };
-    let starts = near(alloc, &tree, place)?;
-    reach_from(alloc, doc, tables, starts.as_slice())
+    let starts = near(alloc, &times, place)?;
+    reach_from(alloc, tree, tables, starts.as_slice())
 }
 
 // What is reached from the elements at these places, in document order.
 fn reach_from(
     alloc: Global,
-    doc: &Doc,
+    tree: &Tree,
     tables: &Tables,
     starts: &[usize],
 ) -> Result<Serials, AllocError>
-    requires tree { IsNumberedTree doc.now }
-    requires tables { AreTables doc.now tables.now }
-    requires elements { AreElements doc.now.nodes starts.now }
-    ensures { IfOk result (λ reach. (set : List ℕ) → AreOf doc.now.nodes set starts.now
-        → reach ≡ reach_of doc.now.nodes set) }
+    requires tree { IsNumberedTree tree.now }
+    requires tables { AreTables tree.now tables.now }
+    requires elements { AreElements tree.now.nodes starts.now }
+    ensures { IfOk result (λ reach. (set : List ℕ) → AreOf tree.now.nodes set starts.now
+        → reach ≡ reach_of tree.now.nodes set) }
 {
     let mut found = search(alloc, tables.heads.as_slice(), starts)?;
     found.sort_unstable()?;
-    serials_at(alloc, doc, found.as_slice())
+    serials_at(alloc, tree, found.as_slice())
 }
 
 // The place of a serial that is an element's.
-fn element_place(doc: &Doc, places: &SerialTable, serial: u32) -> Option<usize>
-    ensures { result ≡ element_place doc.now.nodes (get places.now serial) }
+fn element_place(tree: &Tree, serial: u32) -> Option<usize>
+    ensures { result ≡ element_place tree.now.nodes (place_of tree.now.nodes serial) }
 {
-    match place_of(places, serial) {
-        Some(place) if is_element_at(doc, place) => Some(place),
+    match tree.position(serial) {
+        Some(place) if is_element_at(tree, place) => Some(place),
         _ => None,
     }
-}
-
-// The place of a serial.
-fn place_of(places: &SerialTable, serial: u32) -> Option<usize>
-    ensures { result ≡ get places.now serial }
-{
-    places.get(serial)
 }
 
 // The row at a place; it is empty where there is none.

@@ -12,7 +12,8 @@ ghost use Rattle.smil_model.specs.document.Valid.{IsDistinct};
 use super::feeders::named_by;
 use super::outline::is_element;
 use super::row::number_at;
-use smil_model::{Doc, Edge, GrowingList, Items};
+use smil_model::{Edge, GrowingList, Items};
+use smil_tree::Tree;
 use std::alloc::{AllocError, Global};
 use std::collections::HashMap;
 
@@ -28,18 +29,19 @@ pub struct Loops<'a, 'b> {
 /// of the same level.
 pub fn looped_marks(
     alloc: Global,
-    doc: &Doc,
+    tree: &Tree,
     loops: &Loops<'_, '_>,
     side: Edge,
 ) -> Result<Vec<GrowingList<bool>>, AllocError>
-    requires distinct { IsDistinct doc.now.nodes }
-    requires ids { IsIndex doc.now.nodes (model.element_named doc.now.nodes)
+    requires distinct { IsDistinct tree.now.nodes }
+    requires ids { IsIndex tree.now.nodes (model.element_named tree.now.nodes)
         (λ id. get_by (λ k. bytes_eq id k.now) loops.now.ids.now) }
-    requires levels { AreElementLevels doc.now.nodes loops.now.levels.now }
-    ensures { IfOk result (λ rows. AreMarks doc.now.nodes side rows.items) }
+    requires levels { AreElementLevels tree.now.nodes loops.now.levels.now }
+    ensures { IfOk result (λ rows. AreMarks tree.now.nodes side rows.items) }
 {
-    let mut rows = Vec::with_capacity(alloc, doc.len())?;
-    for (place, node) in doc.nodes().iter().enumerate() {
+    let mut rows = Vec::with_capacity(alloc, tree.len())?;
+    for place in 0..tree.len() {
+        let node = tree.at(place).unwrap();
         let mut row = GrowingList::new(alloc);
         if is_element(node) {
             push_marks(&mut row, node.attrs.list(side), loops, place)?;

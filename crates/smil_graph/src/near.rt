@@ -10,7 +10,8 @@ ghost use Rattle.smil_graph.specs.Places.{up, is_element_at, IsTable, AreTimeChi
 use super::outline::{TimeTree, place_at};
 use super::search::search;
 use indexmap::IndexSet;
-use smil_model::{Doc, Kind};
+use smil_model::Kind;
+use smil_tree::Tree;
 use std::alloc::{AllocError, Global};
 
 /// The places at which the reach of an element begins.
@@ -34,12 +35,12 @@ pub fn near(alloc: Global, tree: &TimeTree<'_>, place: usize) -> Result<IndexSet
 }
 
 // The time parent where that is a seq or an excl, and else the element itself.
-fn top_of(doc: &Doc, parent: Option<usize>, place: usize) -> usize
-    ensures { result ≡ top_of doc.now.nodes parent place }
+fn top_of(tree: &Tree, parent: Option<usize>, place: usize) -> usize
+    ensures { result ≡ top_of tree.now.nodes parent place }
 {
     match parent {
         Some(parent) => {
-            if takes_turns(doc, parent) {
+            if takes_turns(tree, parent) {
                 parent
             } else {
                 place
@@ -50,10 +51,10 @@ fn top_of(doc: &Doc, parent: Option<usize>, place: usize) -> usize
 }
 
 // Whether the node at a place is a seq or an excl.
-fn takes_turns(doc: &Doc, place: usize) -> bool
-    ensures { result ≡ takes_turns (slice_get doc.now.nodes place) }
+fn takes_turns(tree: &Tree, place: usize) -> bool
+    ensures { result ≡ takes_turns (slice_get tree.now.nodes place) }
 {
-    match doc.get(place) {
+    match tree.at(place) {
         Some(node) => matches!(&node.kind, Kind::Seq | Kind::Excl),
         None => false,
     }

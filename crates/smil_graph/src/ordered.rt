@@ -12,7 +12,8 @@ ghost use Rattle.smil_graph.specs.Ranks.{rank_of, height_under, AreHeights};
 use super::outline::is_element;
 use super::row::number_at;
 use super::tables::serials_at;
-use smil_model::{Doc, Serials};
+use smil_model::Serials;
+use smil_tree::Tree;
 use std::alloc::{AllocError, Global};
 
 // What an element is sorted by: first by level, then by height, the lower first, and then by
@@ -28,21 +29,21 @@ struct Rank {
 /// earlier siblings before later ones.
 pub fn ordered(
     alloc: Global,
-    doc: &Doc,
+    tree: &Tree,
     levels: &[usize],
     time_parents: &[Option<usize>],
 ) -> Result<Serials, AllocError>
-    requires distinct { IsDistinct doc.now.nodes }
-    requires levels { AreElementLevels doc.now.nodes levels.now }
-    requires time_parents { IsTable doc.now.nodes (λ n. time_parent doc.now.nodes n.serial)
+    requires distinct { IsDistinct tree.now.nodes }
+    requires levels { AreElementLevels tree.now.nodes levels.now }
+    requires time_parents { IsTable tree.now.nodes (λ n. time_parent tree.now.nodes n.serial)
         time_parents.now }
-    ensures { IfOk result (λ order. IsGraphOrder doc.now.nodes order) }
+    ensures { IfOk result (λ order. IsGraphOrder tree.now.nodes order) }
 {
     let heights = heights(alloc, time_parents)?;
-    let mut ranks = ranks(alloc, doc, levels, heights.as_slice())?;
+    let mut ranks = ranks(alloc, tree, levels, heights.as_slice())?;
     ranks.sort_unstable();
     let places = places(alloc, ranks.as_slice())?;
-    serials_at(alloc, doc, places.as_slice())
+    serials_at(alloc, tree, places.as_slice())
 }
 
 // How high each node stands: the root highest, and every other node one below its time parent.
@@ -71,16 +72,17 @@ fn height_under(heights: &[usize], parent: Option<usize>, top: usize) -> usize
 // The ranks of the elements, in document order.
 fn ranks(
     alloc: Global,
-    doc: &Doc,
+    tree: &Tree,
     levels: &[usize],
     heights: &[usize],
 ) -> Result<Vec<Rank>, AllocError>
     ensures { IfOk result (λ ranks. ranks.items
         ≡ map (rank_of levels.now heights.now)
-        (filter (is_element_at doc.now.nodes) (range_with_len 0 (length doc.now.nodes)))) }
+        (filter (is_element_at tree.now.nodes) (range_with_len 0 (length tree.now.nodes)))) }
 {
     let mut ranks = Vec::new(alloc);
-    for (place, node) in doc.nodes().iter().enumerate() {
+    for place in 0..tree.len() {
+        let node = tree.at(place).unwrap();
         if is_element(node) {
             let level = number_at(levels, place);
             let height = number_at(heights, place);

@@ -1,21 +1,21 @@
 //! The tree of a document, by places in document order.
 
 ghost use Rattle.std.specs.Prelude.{◌≡◌, ℕ, ◌<◌, [], ◌∷◌, ◌++◌, Some, None, length, IfOk, IfSome, OnOk, if◌then◌else◌, slice_get};
-ghost use Rattle.std.specs.FinMap.{get};
 ghost use Rattle.smil_model.specs.document.Document as model;
 ghost use Rattle.smil_model.specs.document.Valid.{IsNumberedTree};
 ghost use Rattle.smil_model.specs.reach.Reach.{is_option};
 ghost use Rattle.smil_graph.specs.Links.{row, IsRising};
-ghost use Rattle.smil_graph.specs.Places.{up, IsTable, IsIndex, before, is_element_at, element_above, previous_of, AreTimeChildren};
+ghost use Rattle.smil_graph.specs.Places.{up, IsTable, before, is_element_at, element_above, previous_of, AreTimeChildren};
 
 use super::row::{empty_rows, push_at, row_at};
-use smil_model::{Doc, GrowingList, Kind, Node, SerialTable};
+use smil_model::{GrowingList, Kind, Node};
+use smil_tree::Tree;
 use std::alloc::{AllocError, Global};
 
 /// A document with the places of the time parents and of the time children of its nodes.
 #[derive(Drop)]
 pub struct TimeTree<'a> {
-    pub doc: &'a Doc,
+    pub doc: &'a Tree,
     pub parents: &'a [Option<usize>],
     pub children: &'a [GrowingList<usize>],
 }
@@ -28,19 +28,15 @@ pub fn is_element(node: &Node) -> bool
 }
 
 /// For each node the place of its parent.
-pub fn parents(
-    alloc: Global,
-    doc: &Doc,
-    places: &SerialTable,
-) -> Result<Vec<Option<usize>>, AllocError>
-    requires tree { IsNumberedTree doc.now }
-    requires places { IsIndex doc.now.nodes (model.node_at doc.now.nodes) (get places.now) }
-    ensures { IfOk result (λ table. IsTable doc.now.nodes
-        (λ n. model.node_at doc.now.nodes n.parent) table.items) }
+pub fn parents(alloc: Global, tree: &Tree) -> Result<Vec<Option<usize>>, AllocError>
+    requires { IsNumberedTree tree.now }
+    ensures { IfOk result (λ table. IsTable tree.now.nodes
+        (λ n. model.node_at tree.now.nodes n.parent) table.items) }
 {
-    let mut parents = Vec::with_capacity(alloc, doc.len())?;
-    for node in doc.nodes() {
-        parents.push(places.get(node.parent))?;
+    let mut parents = Vec::with_capacity(alloc, tree.len())?;
+    for place in 0..tree.len() {
+        let node = tree.at(place).unwrap();
+        parents.push(tree.position(node.parent))?;
     }
     Ok(parents)
 }
@@ -48,30 +44,30 @@ pub fn parents(
 /// For each node the place of its time parent.
 pub fn time_parents(
     alloc: Global,
-    doc: &Doc,
+    tree: &Tree,
     parents: &[Option<usize>],
 ) -> Result<Vec<Option<usize>>, AllocError>
-    requires tree { IsNumberedTree doc.now }
-    requires parents { IsTable doc.now.nodes
-        (λ n. model.node_at doc.now.nodes n.parent) parents.now }
-    ensures { IfOk result (λ table. IsTable doc.now.nodes
-        (λ n. model.time_parent doc.now.nodes n.serial) table.items) }
+    requires tree { IsNumberedTree tree.now }
+    requires parents { IsTable tree.now.nodes
+        (λ n. model.node_at tree.now.nodes n.parent) parents.now }
+    ensures { IfOk result (λ table. IsTable tree.now.nodes
+        (λ n. model.time_parent tree.now.nodes n.serial) table.items) }
 {
     let mut above = Vec::with_capacity(alloc, parents.len())?;
     for parent in parents {
-        let next = element_above(doc, *parent, above.as_slice());
+        let next = element_above(tree, *parent, above.as_slice());
         above.push(next)?;
     }
     Ok(above)
 }
 
 // The parent, or its time parent where it is a priorityClass.
-fn element_above(doc: &Doc, parent: Option<usize>, above: &[Option<usize>]) -> Option<usize>
-    ensures { result ≡ element_above doc.now.nodes above.now parent }
+fn element_above(tree: &Tree, parent: Option<usize>, above: &[Option<usize>]) -> Option<usize>
+    ensures { result ≡ element_above tree.now.nodes above.now parent }
 {
     match parent {
         Some(place) => {
-            if is_element_at(doc, place) {
+            if is_element_at(tree, place) {
                 Some(place)
             } else {
                 place_at(above, place)
@@ -82,10 +78,10 @@ fn element_above(doc: &Doc, parent: Option<usize>, above: &[Option<usize>]) -> O
 }
 
 /// Whether the node at a place is an element.
-pub fn is_element_at(doc: &Doc, place: usize) -> bool
-    ensures { result ≡ is_element_at doc.now.nodes place }
+pub fn is_element_at(tree: &Tree, place: usize) -> bool
+    ensures { result ≡ is_element_at tree.now.nodes place }
 {
-    match doc.get(place) {
+    match tree.at(place) {
         Some(node) => is_element(node),
         None => false,
     }
@@ -104,17 +100,18 @@ pub fn place_at(table: &[Option<usize>], place: usize) -> Option<usize>
 /// For each node the places of its time children, in document order.
 pub fn time_children(
     alloc: Global,
-    doc: &Doc,
+    tree: &Tree,
     time_parents: &[Option<usize>],
 ) -> Result<Vec<GrowingList<usize>>, AllocError>
-    requires { IsTable doc.now.nodes (λ n. model.time_parent doc.now.nodes n.serial)
+    requires { IsTable tree.now.nodes (λ n. model.time_parent tree.now.nodes n.serial)
         time_parents.now }
-    ensures count { IfOk result (λ rows. length rows.items ≡ length doc.now.nodes) }
+    ensures count { IfOk result (λ rows. length rows.items ≡ length tree.now.nodes) }
     ensures children { IfOk result
-        (λ rows. AreTimeChildren doc.now.nodes time_parents.now rows.items) }
+        (λ rows. AreTimeChildren tree.now.nodes time_parents.now rows.items) }
 {
-    let mut rows = empty_rows(alloc, doc.len())?;
-    for (place, node) in doc.nodes().iter().enumerate() {
+    let mut rows = empty_rows(alloc, tree.len())?;
+    for place in 0..tree.len() {
+        let node = tree.at(place).unwrap();
         if is_element(node) {
             push_under(&mut rows, place_at(time_parents, place), place)?;
         }
@@ -163,17 +160,17 @@ pub fn previous_in_seqs(
 
 // Under a parent that is a seq, the place of the child before this one.
 fn previous_of(
-    doc: &Doc,
+    tree: &Tree,
     parent: Option<usize>,
     time_children: &[GrowingList<usize>],
     place: usize,
 ) -> Option<usize>
     requires { (q : ℕ) → IsRising (row time_children.now q) }
-    ensures { result ≡ previous_of doc.now.nodes time_children.now place parent }
+    ensures { result ≡ previous_of tree.now.nodes time_children.now place parent }
 {
     match parent {
         Some(parent) => {
-            if is_seq(doc, parent) {
+            if is_seq(tree, parent) {
                 one_before(row_at(time_children, parent), place)
             } else {
                 None
@@ -184,10 +181,10 @@ fn previous_of(
 }
 
 // Whether the node at a place is a seq.
-fn is_seq(doc: &Doc, place: usize) -> bool
-    ensures { result ≡ model.has_kind model.is_seq_kind (slice_get doc.now.nodes place) }
+fn is_seq(tree: &Tree, place: usize) -> bool
+    ensures { result ≡ model.has_kind model.is_seq_kind (slice_get tree.now.nodes place) }
 {
-    match doc.get(place) {
+    match tree.at(place) {
         Some(node) => match node.kind {
             Kind::Seq => true,
             _ => false,

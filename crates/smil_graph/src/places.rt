@@ -1,32 +1,25 @@
-//! The places of nodes in document order, by serial and by id.
+//! The places of elements in document order, by id.
 
 ghost use Rattle.std.specs.Prelude.{◌≡◌, ◌==◌, ℕ, List, Some, None, ◌&&◌, if◌then◌else◌, bytes_eq, IfOk, OnOk};
-ghost use Rattle.std.specs.FinMap.{get};
 ghost use Rattle.std.specs.HashMap.{get_by};
 ghost use Rattle.std.specs.Option.{option_or};
-ghost use Rattle.smil_model.specs.document.Document.{node_at, element_named, is_element, has_id};
+ghost use Rattle.smil_model.specs.document.Document.{element_named, is_element, has_id};
 ghost use Rattle.smil_graph.specs.Places.{IsIndex};
 
 use super::outline::is_element;
-use smil_model::{Doc, Node, SerialTable, first_places};
+use smil_model::Node;
+use smil_tree::Tree;
 use std::alloc::{AllocError, Global};
 use std::collections::HashMap;
 
-/// The place of the first node with each serial.
-pub fn serial_places(alloc: Global, doc: &Doc) -> Result<SerialTable, AllocError>
-    ensures { IfOk result (λ places. IsIndex doc.now.nodes (node_at doc.now.nodes)
-        (get places)) }
-{
-    first_places(alloc, doc.nodes())
-}
-
 /// The place of the first element with each id.
-pub fn id_places<'a>(alloc: Global, doc: &'a Doc) -> Result<HashMap<&'a [u8], usize>, AllocError>
-    ensures { IfOk result (λ places. IsIndex doc.now.nodes (element_named doc.now.nodes)
+pub fn id_places<'a>(alloc: Global, tree: &'a Tree) -> Result<HashMap<&'a [u8], usize>, AllocError>
+    ensures { IfOk result (λ places. IsIndex tree.now.nodes (element_named tree.now.nodes)
         (λ id. get_by (λ k. bytes_eq id k.now) places)) }
 {
     let mut places = HashMap::new(alloc);
-    for (place, node) in doc.nodes().iter().enumerate() {
+    for place in 0..tree.len() {
+        let node = tree.at(place).unwrap();
         note_id(&mut places, node, place)?;
     }
     Ok(places)

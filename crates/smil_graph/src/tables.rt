@@ -14,16 +14,16 @@ use super::levels::levels;
 use super::looped::{Loops, looped_marks};
 use super::ordered::ordered;
 use super::outline::{TimeTree, parents, time_children, time_parents};
-use super::places::{id_places, serial_places};
+use super::places::id_places;
 use super::turned::turned;
 use super::waiting::waiting;
-use smil_model::{Doc, Edge, GrowingList, SerialTable, Serials, first_places};
+use smil_model::{Edge, GrowingList, SerialTable, Serials, first_places};
+use smil_tree::Tree;
 use std::alloc::{AllocError, Global};
 use std::collections::HashMap;
 
 /// What a graph keeps of its document, by places in document order.
 pub struct Tables {
-    pub places: SerialTable,
     pub time_parents: Vec<Option<usize>>,
     pub time_children: Vec<GrowingList<usize>>,
     pub begins: Vec<GrowingList<bool>>,
@@ -39,7 +39,6 @@ impl Drop for Tables {
     // Dropped by a call of its own, not field by field in each function that drops one.
     fn drop(self) {
         let Tables {
-            places: _places,
             time_parents: _time_parents,
             time_children: _time_children,
             begins: _begins,
@@ -54,36 +53,34 @@ impl Drop for Tables {
 }
 
 /// What the graph of a document keeps.
-pub fn tables_of(alloc: Global, doc: &Doc) -> Result<Tables, AllocError>
-    requires { IsNumberedTree doc.now }
-    ensures { IfOk result (λ t. AreTables doc.now t) }
+pub fn tables_of(alloc: Global, tree: &Tree) -> Result<Tables, AllocError>
+    requires { IsNumberedTree tree.now }
+    ensures { IfOk result (λ t. AreTables tree.now t) }
 {
-    let places = serial_places(alloc, doc)?;
-    let parents = parents(alloc, doc, &places)?;
-    let time_parents = time_parents(alloc, doc, parents.as_slice())?;
-    let time_children = time_children(alloc, doc, time_parents.as_slice())?;
-    let ids = id_places(alloc, doc)?;
-    let tree = TimeTree {
-        doc,
+    let parents = parents(alloc, tree)?;
+    let time_parents = time_parents(alloc, tree, parents.as_slice())?;
+    let time_children = time_children(alloc, tree, time_parents.as_slice())?;
+    let ids = id_places(alloc, tree)?;
+    let times = TimeTree {
+        doc: tree,
         parents: time_parents.as_slice(),
         children: time_children.as_slice(),
     };
-    let feeders = feeders(alloc, &tree, &ids)?;
+    let feeders = feeders(alloc, &times, &ids)?;
     let levels = element_levels(alloc, feeders.as_slice())?;
-    let heads = heads(alloc, doc, feeders.as_slice(), &ids)?;
-    let order = ordered(alloc, doc, levels.as_slice(), time_parents.as_slice())?;
+    let heads = heads(alloc, tree, feeders.as_slice(), &ids)?;
+    let order = ordered(alloc, tree, levels.as_slice(), time_parents.as_slice())?;
     let loops = Loops {
         ids: &ids,
         levels: levels.as_slice(),
     };
     Ok(Tables {
-        begins: looped_marks(alloc, doc, &loops, Edge::Begin)?,
-        ends: looped_marks(alloc, doc, &loops, Edge::End)?,
-        readers: readers(alloc, doc, heads.as_slice())?,
-        waiting: waiting(alloc, doc)?,
+        begins: looped_marks(alloc, tree, &loops, Edge::Begin)?,
+        ends: looped_marks(alloc, tree, &loops, Edge::End)?,
+        readers: readers(alloc, tree, heads.as_slice())?,
+        waiting: waiting(alloc, tree)?,
         ranks: first_places(alloc, order.slice())?,
         order,
-        places,
         time_parents,
         time_children,
         heads,
@@ -104,45 +101,45 @@ fn element_levels(alloc: Global, feeders: &[GrowingList<usize>]) -> Result<Vec<u
 // For each node the places of the elements that read it, in document order.
 fn heads(
     alloc: Global,
-    doc: &Doc,
+    tree: &Tree,
     feeders: &[GrowingList<usize>],
     ids: &HashMap<&[u8], usize>,
 ) -> Result<Vec<GrowingList<usize>>, AllocError>
-    requires distinct { IsDistinct doc.now.nodes }
-    requires feeders { AreRows (length doc.now.nodes) (feeds_place doc.now.nodes) feeders.now }
-    requires ids { IsIndex doc.now.nodes (element_named doc.now.nodes)
+    requires distinct { IsDistinct tree.now.nodes }
+    requires feeders { AreRows (length tree.now.nodes) (feeds_place tree.now.nodes) feeders.now }
+    requires ids { IsIndex tree.now.nodes (element_named tree.now.nodes)
         (λ id. get_by (λ k. bytes_eq id k.now) ids.now) }
-    ensures { IfOk result (λ rows. AreHeads doc.now.nodes rows.items) }
+    ensures { IfOk result (λ rows. AreHeads tree.now.nodes rows.items) }
 {
-    let sources = sources(alloc, doc, feeders, ids)?;
+    let sources = sources(alloc, tree, feeders, ids)?;
     turned(alloc, sources.as_slice())
 }
 
 // For each element the serials of those that read it, in document order.
 fn readers(
     alloc: Global,
-    doc: &Doc,
+    tree: &Tree,
     heads: &[GrowingList<usize>],
 ) -> Result<Vec<Serials>, AllocError>
-    requires distinct { IsDistinct doc.now.nodes }
-    requires heads { AreHeads doc.now.nodes heads.now }
-    ensures { IfOk result (λ rows. AreReaders doc.now.nodes rows.items) }
+    requires distinct { IsDistinct tree.now.nodes }
+    requires heads { AreHeads tree.now.nodes heads.now }
+    ensures { IfOk result (λ rows. AreReaders tree.now.nodes rows.items) }
 {
     let mut rows = Vec::with_capacity(alloc, heads.len())?;
     for row in heads {
-        let serials = serials_at(alloc, doc, row.slice())?;
+        let serials = serials_at(alloc, tree, row.slice())?;
         rows.push(serials)?;
     }
     Ok(rows)
 }
 
 /// The serials of the nodes at these places.
-pub fn serials_at(alloc: Global, doc: &Doc, places: &[usize]) -> Result<Serials, AllocError>
-    ensures { IfOk result (λ serials. serials ≡ serials_of_places doc.now.nodes places.now) }
+pub fn serials_at(alloc: Global, tree: &Tree, places: &[usize]) -> Result<Serials, AllocError>
+    ensures { IfOk result (λ serials. serials ≡ serials_of_places tree.now.nodes places.now) }
 {
     let mut serials = GrowingList::new(alloc);
     for place in places {
-        if let Some(node) = doc.get(*place) {
+        if let Some(node) = tree.at(*place) {
             serials.push(node.serial)?;
         }
     }

@@ -8,18 +8,20 @@ ghost use Rattle.smil_model.specs.reach.Reach.{is_key_item, is_option};
 ghost use Rattle.smil_graph.specs.Tables.{has_key_item, key_of, AreWaiting, AreWithPlace};
 
 use super::row::{empty_rows, push_at};
-use smil_model::{Doc, GrowingList, Item, Items, Node};
+use smil_model::{GrowingList, Item, Items, Node};
+use smil_tree::Tree;
 use std::alloc::{AllocError, Global};
 
 /// How many keys there are: one for each byte.
 pub const KEYS: usize = 256;
 
 /// For each key a row of the places of the elements that have an item for it.
-pub fn waiting(alloc: Global, doc: &Doc) -> Result<Vec<GrowingList<usize>>, AllocError>
-    ensures { IfOk result (λ rows. AreWaiting doc.now.nodes rows.items) }
+pub fn waiting(alloc: Global, tree: &Tree) -> Result<Vec<GrowingList<usize>>, AllocError>
+    ensures { IfOk result (λ rows. AreWaiting tree.now.nodes rows.items) }
 {
     let mut rows = empty_rows(alloc, KEYS)?;
-    for (place, node) in doc.nodes().iter().enumerate() {
+    for place in 0..tree.len() {
+        let node = tree.at(place).unwrap();
         push_waits(&mut rows, node, place)?;
     }
     Ok(rows)

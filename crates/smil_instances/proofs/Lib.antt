@@ -43,3 +43,4 @@ pub mod UntouchedItems
 pub mod CellUpdates
 pub mod Going
 pub mod Early
+pub mod AlikeDependents

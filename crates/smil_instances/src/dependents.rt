@@ -4,7 +4,7 @@ ghost use Rattle.std.specs.Prelude.{◌≡◌, IfOk};
 ghost use Rattle.smil_instances.specs.Dependents.{AreDependentsOf, cells_in, keyed_in, source_in};
 
 use super::dependents_row::DependentsRow;
-use super::elements::{children_before, elements, places_of};
+use super::elements::{children_before, places_of};
 use super::fill::fill;
 use super::fresh::fresh_rows;
 use super::keys::cells_by_key;
@@ -59,12 +59,12 @@ impl Dependents {
     pub fn of(alloc: Global, tree: &Tree) -> Result<Dependents, AllocError>
         ensures { IfOk result (λ dependents. AreDependentsOf tree.now.nodes dependents) }
     {
-        let whos = elements(alloc, tree)?;
-        let befores = children_before(alloc, tree, &whos)?;
-        let mut rows = fresh_rows(alloc, tree, &whos, &befores)?;
+        let whos = tree.elements();
+        let befores = children_before(alloc, tree, whos)?;
+        let mut rows = fresh_rows(alloc, tree, whos, &befores)?;
         let keys = cells_by_key(alloc, &rows)?;
-        let places = places_of(alloc, tree, &whos)?;
-        fill(&mut rows, tree, &places, &whos)?;
+        let places = places_of(alloc, tree, whos)?;
+        fill(&mut rows, tree, &places, whos)?;
         Ok(Dependents { rows, keys })
     }
 

@@ -1,4 +1,4 @@
-//! The elements of a document, in document order.
+//! Where the elements of a document stand, and which time child is before each.
 
 ghost use Rattle.std.specs.Prelude.{◌≡◌, ℕ, if◌then◌else◌, Some, option_and_then, IfOk, OnOk, nat_eq, map};
 ghost use Rattle.std.specs.FinMap.{get};
@@ -12,16 +12,6 @@ use smil_model::{SerialTable, first_places};
 use smil_tree::Tree;
 use std::alloc::{AllocError, Global};
 use std::collections::HashMap;
-
-/// The serials of the elements.
-pub fn elements(alloc: Global, tree: &Tree) -> Result<Vec<u32>, AllocError>
-    ensures { IfOk result (λ whos. whos.items ≡ serials (elements tree.now.nodes)) }
-{
-    tree.nodes()
-        .filter(|node| node.kind.is_element())
-        .map(|node| node.serial)
-        .collect(alloc)
-}
 
 /// The places of the elements in the list, by their serials.
 pub fn places_of(alloc: Global, tree: &Tree, whos: &[u32]) -> Result<SerialTable, AllocError>

@@ -17,7 +17,6 @@ ghost use Rattle.smil_instances.specs.Idle.{IsElementAt, IsListOf, idle_kept, wi
 ghost use Rattle.smil_instances.specs.Intake.{history_of};
 
 use super::dependents::Dependents;
-use super::elements::elements;
 use super::source::Source;
 use smil_instance_rows::{Cell, InstanceRow, InstanceTime, Rows};
 use smil_model::{Edge, Item, Items, Time, moved};
@@ -35,7 +34,7 @@ pub(crate) fn idle_rows(
         → IfOk result (λ rows. rows ≡ settled_rows (history_of tree.now log [])) }
 {
     tree.valid();
-    let whos = elements(alloc, tree)?;
+    let whos = tree.elements();
     let mut rows = Rows::new(alloc);
     for (place, who) in whos.iter().enumerate() {
         let sources = ElementSources { dependents, place };

@@ -23,7 +23,7 @@ use super::idle::idle_rows;
 use super::intake::take_in;
 use super::laws::rows_tell_instances;
 use smil_diary::Book;
-use smil_graph::Graph;
+use smil_graph::{Graph, are_alike};
 use smil_instance_rows::{Add, RowNotes, Rows};
 use smil_model::{Duplicate, Edge, Entry, Log, Time};
 use smil_stretch::Clocks;
@@ -83,10 +83,46 @@ impl Instances {
         ensures { (log : List AnyLogEntry)
             → IfOk result (λ value. IsSettled value tree.now log []) }
     {
-        let dependents = Dependents::of(alloc, tree)?;
+        let dependents = Rc::new(alloc, Dependents::of(alloc, tree)?)?;
+        Instances::over(alloc, tree, dependents)
+    }
+
+    /// The instance times of an edited document to which nothing has happened yet, by those of the
+    /// document before; unless memory runs out. Where the two are alike, as `are_alike` of
+    /// smil_graph says, what their items follow from is shared, and else made anew. It takes memory
+    /// for each element and for each item.
+    pub fn revised(&self, before: &Tree, after: &Tree) -> Result<Instances, AllocError>
+        requires { AreDependentsOf before.now.nodes self.now.dependents }
+        ensures { (log : List AnyLogEntry)
+            → IfOk result (λ value. IsSettled value after.now log []) }
+    {
+        let dependents = self.dependents_of(before, after)?;
+        Instances::over(self.alloc, after, dependents)
+    }
+
+    // What the items of an edited document follow from.
+    fn dependents_of(&self, before: &Tree, after: &Tree) -> Result<Rc<Dependents>, AllocError>
+        requires { AreDependentsOf before.now.nodes self.now.dependents }
+        ensures { IfOk result (λ dependents. AreDependentsOf after.now.nodes dependents.value) }
+    {
+        if are_alike(before, after) {
+            let shared = self.dependents.clone()?;
+            Ok(shared)
+        } else {
+            let own = Dependents::of(self.alloc, after)?;
+            Ok(Rc::new(self.alloc, own)?)
+        }
+    }
+
+    // The instance times of a document to which nothing has happened yet.
+    fn over(alloc: Global, tree: &Tree, dependents: Rc<Dependents>) -> Result<Instances, AllocError>
+        requires { AreDependentsOf tree.now.nodes dependents.value }
+        ensures { (log : List AnyLogEntry)
+            → IfOk result (λ value. IsSettled value tree.now log []) }
+    {
         Ok(Instances {
-            rows: idle_rows(alloc, tree, &dependents)?,
-            dependents: Rc::new(alloc, dependents)?,
+            rows: idle_rows(alloc, tree, dependents.as_ref())?,
+            dependents,
             adds: Vec::new(alloc),
             alloc,
         })

@@ -7,6 +7,7 @@ ghost use Rattle.smil_model.specs.document.Document.{serial_of, time_parent};
 ghost use Rattle.smil_model.specs.shown.Answers.{IsGiven, IsRefusedBy, Refuses};
 ghost use Rattle.smil_model.specs.shown.Orders.{IsState, changes_between, node_of};
 ghost use Rattle.smil_grammar.specs.Formats.{formats};
+ghost use Rattle.smil_graph.specs.Graph.{document_of};
 ghost use Rattle.smil_report.specs.Tellings.{Begins, Tells, gone_told};
 ghost use Rattle.smil_cells.specs.CellsState.{WhereTold};
 ghost use Rattle.smil_live.specs.Counted.{KeepsToCounts};
@@ -21,14 +22,14 @@ use super::presentation::PresentationOver;
 use super::replay::{cells_with, diary_through};
 use smil_cells::{Cells, Table};
 use smil_diary::Book;
+use smil_graph::Graph;
 use smil_instances::parent_of;
 use smil_interval::Steps;
 use smil_model::{GrowingList, Refusal, Who};
-use smil_past::GraphedTree;
 use smil_report::ChangeItem;
 use smil_revision::{
-    Child, GraphedDocument, LineText, Revision, Setting, keeps_references, with_child, with_value,
-    without_name, without_node,
+    Child, LineText, Revision, Setting, keeps_references, with_child, with_value, without_name,
+    without_node,
 };
 use smil_shown::{Scene, ViewTable, put_all_gone, put_differences};
 use smil_tree::Tree;
@@ -294,42 +295,32 @@ impl<T: Table> PresentationOver<T> {
             (least_loading (edited_to self.now edited) ≤ steps.new - steps.old)) }
     {
         edited.valid();
-        let graphed = GraphedTree::revised(self.viewer.cells.past(), edited)?;
-        let len = self.staying(&graphed, site)?;
-        cells_with(&self.viewer.cells, graphed, len, steps)
+        let graph = self.viewer.cells.past().graph().revised(edited)?;
+        let len = self.staying(&graph, site)?;
+        cells_with(&self.viewer.cells, graph, len, steps)
     }
 
     // How many entries of the diary stay by an edit, unless memory runs out: those up to the first
     // begin of the time parent of the edited node, with that, where the edit leaves the references
     // as they were.
-    fn staying(&self, graphed: &GraphedTree, site: Site) -> Result<usize, AllocError>
-        requires made { IsMade self.now.document site graphed.now.tree }
-        requires graph { graphed.now.graph.nodes ≡ graphed.now.tree.nodes }
-        ensures { IfOk result (λ len. len ≡ staying self.now graphed.now.tree site) }
+    fn staying(&self, graph: &Graph, site: Site) -> Result<usize, AllocError>
+        requires { IsMade self.now.document site (document_of graph.now) }
+        ensures { IfOk result (λ len. len ≡ staying self.now (document_of graph.now) site) }
     {
-        let (serial, parent) = edited_node(self.viewer.cells.tree(), &graphed.tree, site);
-        let keeps = self.keeps_references(serial, graphed)?;
+        let (serial, parent) = edited_node(self.viewer.cells.tree(), graph.tree(), site);
+        let keeps = self.keeps_references(serial, graph)?;
         Ok(entries_staying(self.viewer.cells.book(), keeps, parent))
     }
 
     // Whether an edit of a node leaves the references as they were, unless memory runs out.
-    fn keeps_references(&self, serial: u32, graphed: &GraphedTree) -> Result<bool, AllocError>
-        requires { graphed.now.graph.nodes ≡ graphed.now.tree.nodes }
+    fn keeps_references(&self, serial: u32, graph: &Graph) -> Result<bool, AllocError>
         ensures { IfOk result (λ keeps. keeps
-            ≡ keeps_references serial self.now.document.nodes graphed.now.tree.nodes) }
+            ≡ keeps_references serial self.now.document.nodes graph.now.nodes) }
     {
-        let old = GraphedDocument {
-            tree: self.viewer.cells.tree(),
-            graph: self.viewer.cells.past().graph(),
-        };
-        let new = GraphedDocument {
-            tree: &graphed.tree,
-            graph: &graphed.graph,
-        };
         let revision = Revision {
             edited: serial,
-            old,
-            new,
+            old: self.viewer.cells.past().graph(),
+            new: graph,
         };
         keeps_references(self.alloc, revision)
     }

@@ -10,15 +10,16 @@ ghost use Rattle.smil_model.specs.document.Document.{elements};
 ghost use Rattle.smil_model.specs.document.Valid.{IsNumberedTree};
 ghost use Rattle.smil_model.specs.reach.Bounds.{through_begin};
 ghost use Rattle.smil_model.specs.shown.Orders.{IsState};
+ghost use Rattle.smil_graph.specs.Graph.{document_of};
 ghost use Rattle.smil_cells.specs.CellsState.{IsRebuilt, IsSettled, MayRebuild, CellsState, WhereTold, fresh_since, reached_since};
 ghost use Rattle.smil_live.specs.Counts.{least_loading, most_loading, reached_behind};
 ghost use Rattle.smil_live.specs.Moves.{IsReplayed, IsTooFull, IsUnderWay, edited_to, heard_at, replay_of, sought_of};
 
 use smil_cells::{Cells, Table};
 use smil_diary::Book;
+use smil_graph::Graph;
 use smil_interval::Steps;
 use smil_model::{Doc, Duplicate, LOG_ENTRIES, LogEntry, Refusal, StepKind};
-use smil_past::GraphedTree;
 use std::alloc::Global;
 use std::sync::ledger::Ledger;
 
@@ -87,36 +88,36 @@ pub fn cells_at<T: Table, L: Ledger>(
     Ok(earlier)
 }
 
-/// The cells of another document with the same log at the same moment, rebuilt from the first `len`
-/// entries of the diary, with which the diary of that document begins too. `DiaryFull` where that
-/// diary would have too many entries, `Memory` where memory runs out.
+/// The cells of the document of a graph with the same log at the same moment, rebuilt from the
+/// first `len` entries of the diary, with which the diary of that document begins too. `DiaryFull`
+/// where that diary would have too many entries, `Memory` where memory runs out.
 pub fn cells_with<T: Table, L: Ledger>(
     cells: &Cells<T>,
-    graphed: GraphedTree,
+    graph: Graph,
     len: usize,
     steps: &mut Steps<L>,
 ) -> Result<Cells<T>, Refusal>
-    requires state { IsState (edited_to cells.now.presentation graphed.tree) }
-    requires rebuild { MayRebuild cells.now graphed.tree len }
-    requires graph { graphed.graph.nodes ≡ graphed.tree.nodes }
-    requires way { (rebuilt : CellsState) → IsRebuilt cells.now graphed.tree len rebuilt
-        → IsUnderWay (edited_to cells.now.presentation graphed.tree)
+    requires state { IsState (edited_to cells.now.presentation (document_of graph)) }
+    requires rebuild { MayRebuild cells.now (document_of graph) len }
+    requires way { (rebuilt : CellsState) → IsRebuilt cells.now (document_of graph) len rebuilt
+        → IsUnderWay (edited_to cells.now.presentation (document_of graph))
         (length rebuilt.presentation.log) rebuilt }
-    ensures ok { IfOk result (IsReplayed (edited_to cells.now.presentation graphed.tree)) }
-    ensures refused { IfErr result (IsTooFull (edited_to cells.now.presentation graphed.tree)) }
+    ensures ok { IfOk result (IsReplayed (edited_to cells.now.presentation (document_of graph))) }
+    ensures refused { IfErr result
+        (IsTooFull (edited_to cells.now.presentation (document_of graph))) }
     ensures counted { steps.old ≤ steps.new }
     ensures most { OnOk result (WhereTold T.counts
-        (steps.new - steps.old ≤ length (elements graphed.tree.nodes) + reached_behind len
-        (edited_to cells.now.presentation graphed.tree))) }
+        (steps.new - steps.old ≤ length (elements graph.nodes) + reached_behind len
+        (edited_to cells.now.presentation (document_of graph)))) }
     ensures least { OnOk result (WhereTold T.counts
-        (least_loading (edited_to cells.now.presentation graphed.tree)
+        (least_loading (edited_to cells.now.presentation (document_of graph))
         ≤ steps.new - steps.old)) }
 {
     let replay = Replay {
         log: cells.log().slice(),
         to: cells.moment(),
     };
-    let mut rebuilt = cells.rebuilt_over(graphed, len, steps)?;
+    let mut rebuilt = cells.rebuilt_over(graph, len, steps)?;
     replay_on(&mut rebuilt, replay, steps)?;
     Ok(rebuilt)
 }

@@ -1,16 +1,15 @@
 -- What evaluation reads of the attributes of an element.
-use Rattle.std.proofs.Common.{◌≡◌, refl, ◌∙◌, ap, ℕ, ℤ, List, Option, Some, None, Bool, true, false}
+use Rattle.std.proofs.Common.{◌≡◌, refl, ◌∙◌, ap, ℕ, List, Option, Some, None, Bool, true, false}
 use Rattle.std.specs.Prelude.{if◌then◌else◌, option_map}
 use Rattle.smil_model.specs.declared.times.Time.{Time}
-use Rattle.smil_model.specs.declared.document.Count.{Count}
 use Rattle.smil_model.specs.declared.document.Fill.{Fill}
 use Rattle.smil_model.specs.declared.document.Node.{Node}
 use Rattle.smil_model.specs.declared.document.Restart.{Restart}
 use Rattle.smil_model.specs.declared.interval.EndList.{EndList}
 use Rattle.smil_model.specs.document.Document.{node_at}
-use Rattle.smil_model.specs.document.Defaults.{effective_fill, fill_of, max_of, min_of, restart_of, takes_implicit}
+use Rattle.smil_model.specs.document.Defaults.{effective_fill, fill_of, restart_of, takes_implicit}
 use Rattle.smil_model.specs.interval.Current.{end_list_of}
-use Rattle.smil_model.specs.interval.Durations.{simple_duration, stated_duration}
+use Rattle.smil_model.specs.interval.Durations.{Bounds, bounds_of, simple_duration, stated_duration}
 use Rattle.smil_past.specs.declared.makeup.Makeup.{Makeup}
 use Rattle.smil_past.specs.Makeups.{makeup_of, stated_simple}
 
@@ -24,9 +23,9 @@ fill_is nodes s e f at is =
     let same : Some f ≡ Some (fill_of nodes e) = is ∙ ap (option_map (fill_of nodes)) at in
     cc
 
-pub makeup_is : (nodes : List Node) (e : Node) (simple : Option Time) (low : ℤ) (high : Time) (count : Option Count) (dur : Option Time) (list : EndList) (restart : Restart) (fill : Fill) → simple ≡ stated_simple e.attrs → low ≡ min_of e.attrs → high ≡ max_of e.attrs → count ≡ e.attrs.repeat_count → dur ≡ e.attrs.repeat_dur → list ≡ end_list_of e.attrs.«end» → restart ≡ restart_of nodes e → fill ≡ effective_fill nodes e → ◌≡◌ {A = Makeup} (record { simple = simple; min = low; max = high; count = count; repeat_dur = dur; end_list = list; restart = restart; fill = fill }) (makeup_of nodes e)
-makeup_is nodes e simple low high count dur list restart fill p1 p2 p3 p4 p5 p6 p7 p8 =
-    λ i. record { simple = p1 i; min = p2 i; max = p3 i; count = p4 i; repeat_dur = p5 i; end_list = p6 i; restart = p7 i; fill = p8 i }
+pub makeup_is : (nodes : List Node) (e : Node) (simple : Option Time) (bounds : Bounds) (list : EndList) (restart : Restart) (fill : Fill) → simple ≡ stated_simple e.attrs → bounds ≡ bounds_of e.attrs → list ≡ end_list_of e.attrs.«end» → restart ≡ restart_of nodes e → fill ≡ effective_fill nodes e → ◌≡◌ {A = Makeup} (record { simple = simple; bounds = bounds; end_list = list; restart = restart; fill = fill }) (makeup_of nodes e)
+makeup_is nodes e simple bounds list restart fill p1 p2 p3 p4 p5 =
+    λ i. record { simple = p1 i; bounds = p2 i; end_list = p3 i; restart = p4 i; fill = p5 i }
 
 -- ---- the simple duration, where the attributes tell it and where they don't
 

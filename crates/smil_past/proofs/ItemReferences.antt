@@ -159,6 +159,11 @@ pub rows_indexed : (nodes : List Node) (rows : List SyncRow) (whos : List ℕ) (
 rows_indexed nodes rows whos index same whos_is is =
     subst (λ (xs : List ℕ). IsIndex xs index) (whos_is ∙ sym (ap serials_in same ∙ row_serials nodes (elements nodes))) is
 
+-- and the other way round
+pub elements_indexed : (nodes : List Node) (rows : List SyncRow) (index : ℕ → Option ℕ) → rows ≡ all_syncs nodes → IsIndex (serials_in rows) index → IsIndex (serials (elements nodes)) index
+elements_indexed nodes rows index same is =
+    subst (λ (xs : List ℕ). IsIndex xs index) (ap serials_in same ∙ row_serials nodes (elements nodes)) is
+
 -- a side of a row of an element
 pub side_told : (nodes : List Node) (side : Edge) (e : Node) → syncs_on side (sync_row nodes e) ≡ syncs_of nodes side e
 side_told nodes Begin e = refl

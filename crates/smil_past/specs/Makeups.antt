@@ -3,9 +3,9 @@ use Rattle.std.specs.Prelude.{List, Option, None, Some, if◌then◌else◌}
 use Rattle.smil_model.specs.declared.times.Time.{Time}
 use Rattle.smil_model.specs.declared.document.Attrs.{Attrs}
 use Rattle.smil_model.specs.declared.document.Node.{Node}
-use Rattle.smil_model.specs.document.Defaults.{effective_fill, max_of, min_of, restart_of, takes_implicit}
+use Rattle.smil_model.specs.document.Defaults.{effective_fill, restart_of, takes_implicit}
 use Rattle.smil_model.specs.interval.Current.{end_list_of}
-use Rattle.smil_model.specs.interval.Durations.{stated_duration}
+use Rattle.smil_model.specs.interval.Durations.{bounds_of, stated_duration}
 use Rattle.smil_past.specs.declared.makeup.Makeup.{Makeup}
 
 -- the simple duration where it is not the implicit one
@@ -16,10 +16,7 @@ stated_simple attrs =
 abbrev pub makeup_of : List Node → Node → Makeup
 makeup_of nodes e = record {
   simple = stated_simple e.attrs;
-  min = min_of e.attrs;
-  max = max_of e.attrs;
-  count = e.attrs.repeat_count;
-  repeat_dur = e.attrs.repeat_dur;
+  bounds = bounds_of e.attrs;
   end_list = end_list_of e.attrs.«end»;
   restart = restart_of nodes e;
   fill = effective_fill nodes e;

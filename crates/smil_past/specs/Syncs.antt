@@ -10,12 +10,11 @@ use Rattle.smil_model.specs.declared.document.Edge.{Edge}
 use Rattle.smil_model.specs.declared.document.Edge.TheVariants.{Begin, End}
 use Rattle.smil_model.specs.declared.document.Item.{Item}
 use Rattle.smil_model.specs.declared.document.Item.TheVariants.{Offset, Sync}
-use Rattle.smil_model.specs.document.Document.{Document, elements, element_named, node_at, previous_in_seq}
+use Rattle.smil_model.specs.document.Document.{elements, element_named, node_at, previous_in_seq}
 use Rattle.smil_model.specs.document.Defaults.{items_of}
 use Rattle.smil_model.specs.document.Dependencies.{leads_to}
 use Rattle.smil_model.specs.diary.Diary.{History}
 use Rattle.smil_model.specs.interval.Instances.{expected_times}
-use Rattle.smil_graph.specs.Graph.{OrderedNodes}
 use Rattle.smil_instances.specs.ExpectedTimes.{expected_of}
 use Rattle.smil_instances.specs.declared.source.Source.{Source}
 use Rattle.smil_instances.specs.declared.source.Source.TheVariants as source
@@ -72,12 +71,6 @@ syncs_on End row = row.ends
 
 abbrev pub serials_in : List SyncRow → List ℕ
 serials_in rows = map (λ (row : SyncRow). row.serial) rows
-
--- the graph of a document, and what its items wait for
-pub record IsPrepared
-    (document : Document) (graph : OrderedNodes) (syncs : List SyncRow) : Type 0 where
-  pub graph_is : graph.nodes ≡ document.nodes
-  pub syncs_are : syncs ≡ all_syncs document.nodes
 
 -- ---- by sources
 

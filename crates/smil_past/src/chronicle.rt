@@ -6,17 +6,21 @@ ghost use Rattle.smil_model.specs.declared.diary.LogEntry.{LogEntry as AnyLogEnt
 ghost use Rattle.smil_diary.specs.declared.fault.BookFault.TheVariants as book_fault;
 ghost use Rattle.smil_past.specs.Past.{IsPossible, MayFollow, unmarked};
 ghost use Rattle.smil_instance_rows.specs.Notes.{GoesBackTheSame};
+ghost use Rattle.std.specs.FinMap.{get};
+ghost use Rattle.smil_model.specs.document.Document.{elements, serials};
+ghost use Rattle.smil_instances.specs.Instances.{IsSettled};
+ghost use Rattle.smil_instances.specs.Spread.{IsIndex};
 ghost use Rattle.smil_past.specs.Readings.{MayGoBack};
 ghost use Rattle.smil_past.specs.Chronicle.{Lags, Tells, TellsNothing};
 
 use super::readings::Readings;
 use smil_diary::{Book, BookFault};
-use smil_graph::Graph;
 use smil_instance_rows::RowNotes;
-use smil_instances::DocumentHistory;
-use smil_model::{Duplicate, Entry, Log};
+use smil_instances::{DocumentHistory, Instances};
+use smil_model::{Duplicate, Entry, Log, SerialTable};
 use smil_tree::Tree;
 use std::alloc::{AllocError, Global};
+use std::rc::Rc;
 
 /// A diary, and its readings.
 pub struct Chronicle {
@@ -44,15 +48,21 @@ impl Duplicate for Chronicle {
 }
 
 impl Chronicle {
-    /// The chronicle of a document to which nothing has happened yet, unless memory runs out. The
-    /// graph is that of the tree.
-    pub fn new(alloc: Global, tree: &Tree, graph: &Graph) -> Result<Chronicle, AllocError>
-        requires { graph.now.nodes ≡ tree.now.nodes }
+    /// The chronicle of a document to which nothing has happened yet, with the places of its
+    /// elements and its instance times; unless memory runs out.
+    pub fn new(
+        alloc: Global,
+        tree: &Tree,
+        places: Rc<SerialTable>,
+        instances: Instances,
+    ) -> Result<Chronicle, AllocError>
+        requires places { IsIndex (serials (elements tree.now.nodes)) (get places.value) }
+        requires instances { (log : List AnyLogEntry) → IsSettled instances tree.now log [] }
         ensures { (log : List AnyLogEntry) → IfOk result (TellsNothing tree.now log) }
     {
         Ok(Chronicle {
             book: Book::new(alloc),
-            readings: Readings::new(alloc, tree, graph)?,
+            readings: Readings::new(alloc, tree, places, instances)?,
         })
     }
 

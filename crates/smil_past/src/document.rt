@@ -1,6 +1,7 @@
 //! A document, with what it alone gives.
 
 ghost use Rattle.std.specs.Prelude.{◌≡◌};
+ghost use Rattle.smil_graph.specs.Graph.{document_of};
 ghost use Rattle.smil_past.specs.Syncs.{all_syncs};
 
 use super::syncs::Syncs;
@@ -11,7 +12,6 @@ use std::marker::Model;
 /// A document, with its graph and what its items wait for, which never change while the document
 /// stays; seen as the document.
 pub struct PreparedDocument {
-    tree: Tree,
     graph: Graph,
     syncs: Syncs,
 }
@@ -20,7 +20,6 @@ impl Drop for PreparedDocument {
     // Dropped by a call of its own, not field by field in each function that drops one.
     fn drop(self) {
         let PreparedDocument {
-            tree: _tree,
             graph: _graph,
             syncs: _syncs,
         } = self;
@@ -28,31 +27,32 @@ impl Drop for PreparedDocument {
 }
 
 impl Model for PreparedDocument {
+    ghost use Rattle.std.specs.Prelude.{◌≡◌};
     ghost use Rattle.smil_model.specs.document.Document.{Document};
-    ghost use Rattle.smil_past.specs.Syncs.{IsPrepared};
+    ghost use Rattle.smil_graph.specs.Graph.{document_of};
+    ghost use Rattle.smil_past.specs.Syncs.{all_syncs};
 
     ghost Value = { Document };
 
-    ghost view = { λ d. d.tree };
+    ghost view = { λ d. document_of d.graph };
 
-    ghost invariant = { λ d. IsPrepared d.tree d.graph d.syncs };
+    ghost invariant = { λ d. d.syncs ≡ all_syncs d.graph.nodes };
 }
 
 impl PreparedDocument {
     /// A document with its graph and what its items wait for.
-    pub fn new(tree: Tree, graph: Graph, syncs: Syncs) -> PreparedDocument
-        requires graph { graph.nodes ≡ tree.nodes }
-        requires syncs { syncs ≡ all_syncs tree.nodes }
-        ensures { result ≡ tree }
+    pub fn new(graph: Graph, syncs: Syncs) -> PreparedDocument
+        requires { syncs ≡ all_syncs graph.nodes }
+        ensures { result ≡ document_of graph }
     {
-        PreparedDocument { tree, graph, syncs }
+        PreparedDocument { graph, syncs }
     }
 
     /// The document. It takes no memory.
     pub fn tree(&self) -> &Tree
         ensures { result.now ≡ self.now }
     {
-        &self.tree
+        self.graph.tree()
     }
 
     /// On which elements each element of the document depends. It takes no memory.

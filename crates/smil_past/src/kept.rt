@@ -1,10 +1,11 @@
 //! Readings of the first entries of a diary, kept so that going back can begin with them.
 
-ghost use Rattle.std.specs.Prelude.{ℕ, List, length, take, OnOk, IfOk};
+ghost use Rattle.std.specs.Prelude.{ℕ, ◌<◌, List, [], length, take, OnOk, IfOk};
 ghost use Rattle.smil_model.specs.declared.diary.Entry.{Entry as AnyEntry};
 ghost use Rattle.smil_model.specs.declared.diary.LogEntry.{LogEntry as AnyLogEntry};
 ghost use Rattle.smil_model.specs.document.Document.{Document};
-ghost use Rattle.smil_past.specs.Chronicle.{Lags};
+ghost use Rattle.smil_instances.specs.Instances.{IsSettled};
+ghost use Rattle.smil_past.specs.Chronicle.{Lags, TellsNothing};
 ghost use Rattle.smil_past.specs.Past.{IsPossible};
 ghost use Rattle.smil_past.specs.Kept.{AreKept, AreWithin, IsBroughtUp};
 
@@ -12,6 +13,7 @@ use super::chronicle::Chronicle;
 use super::document::PreparedDocument;
 use super::readings::Readings;
 use smil_diary::Book;
+use smil_instances::Instances;
 use smil_model::{Duplicate, Entry, Log};
 use smil_tree::Tree;
 use std::alloc::{AllocError, Global};
@@ -62,7 +64,7 @@ pub fn nearest(
         → IfOk result (Lags document.now log (take len book.now)) }
 {
     let Some(last) = kept.last() else {
-        return Chronicle::new(alloc, document.tree(), document.graph());
+        return nothing_yet(alloc, document);
     };
     let mut book = book.copy()?;
     book.cut_back(last.len);
@@ -72,8 +74,26 @@ pub fn nearest(
     })
 }
 
+// The chronicle of a document to which nothing has happened yet.
+fn nothing_yet(alloc: Global, document: &PreparedDocument) -> Result<Chronicle, AllocError>
+    ensures { (log : List AnyLogEntry) → IfOk result (TellsNothing document.now log) }
+{
+    let instances = first_instances(alloc, document)?;
+    let places = document.syncs().places().clone()?;
+    Chronicle::new(alloc, document.tree(), places, instances)
+}
+
+// The instance times of a document to which nothing has happened yet.
+fn first_instances(alloc: Global, document: &PreparedDocument) -> Result<Instances, AllocError>
+    ensures { (log : List AnyLogEntry)
+        → IfOk result (λ value. IsSettled value document.now log []) }
+{
+    Instances::new(alloc, document.tree(), document.graph())
+}
+
 /// Appends the entries that a chronicle lacks, and keeps the readings at the middle of what is
-/// left, again and again, while that is more than a few entries.
+/// left, again and again, while that is more than a few entries, and not much less than the
+/// elements, whose readings are copied.
 pub fn catch_up_keeping(
     chronicle: &mut Chronicle,
     kept: &mut Vec<KeptReadings>,
@@ -87,13 +107,22 @@ pub fn catch_up_keeping(
     ensures { OnOk result (IsBroughtUp tree.now log.now entries.now chronicle.new
         kept.new.items) }
 {
+    let few = few_entries(tree);
     let mut left = entries.len() - chronicle.book.len();
-    while left >= FEW_ENTRIES {
+    while left >= few {
         left /= 2;
         chronicle.catch_up(tree, log, &entries[..entries.len() - left])?;
         keep(kept, chronicle)?;
     }
     chronicle.catch_up(tree, log, entries)
+}
+
+// How many entries are taken in without keeping readings on the way: to take one in costs as much
+// as to keep the readings of a few elements.
+fn few_entries(tree: &Tree) -> usize
+    ensures { 0 < result }
+{
+    FEW_ENTRIES.max(tree.elements().len() / 4)
 }
 
 // Keeps the readings of a chronicle.

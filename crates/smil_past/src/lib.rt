@@ -8,13 +8,14 @@ mod document;
 mod kept;
 pub mod makeup;
 pub mod past;
+mod places;
 pub mod plays;
 mod queues;
 pub mod readings;
 pub mod syncs;
 
 pub use makeup::Makeup;
-pub use past::{GraphedTree, Past};
+pub use past::Past;
 pub use plays::{PastInterval, PlayFacts, Plays};
 pub use queues::{Queues, excl_above};
 pub use readings::Readings;

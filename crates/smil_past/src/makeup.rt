@@ -9,7 +9,7 @@ ghost use Rattle.smil_model.specs.interval.Current as model;
 ghost use Rattle.smil_past.specs.Makeups.{makeup_of, stated_simple};
 
 use smil_duration::{Bounds, simple, takes_implicit};
-use smil_model::{Attrs, Count, EndList, Fill, Item, Items, Restart, Time};
+use smil_model::{Attrs, EndList, Fill, Item, Items, Restart, Time};
 use smil_tree::Tree;
 
 /// What evaluation reads of the attributes of an element, in milliseconds.
@@ -17,10 +17,8 @@ use smil_tree::Tree;
 pub struct Makeup {
     /// The simple duration; None where it is the implicit one.
     pub simple: Option<Time>,
-    pub min: i64,
-    pub max: Time,
-    pub count: Option<Count>,
-    pub repeat_dur: Option<Time>,
+    /// What limits a play.
+    pub bounds: Bounds,
     pub end_list: EndList,
     /// The restart that holds: never `ByDefault`.
     pub restart: Restart,
@@ -35,13 +33,9 @@ pub fn makeup_of(tree: &Tree, who: u32) -> Makeup
         → result ≡ makeup_of tree.now.nodes e }
 {
     let attrs = tree.attrs(who);
-    let bounds = Bounds::of_attrs(attrs);
     Makeup {
         simple: stated_simple(attrs),
-        min: bounds.min(),
-        max: bounds.max(),
-        count: attrs.repeat_count,
-        repeat_dur: attrs.repeat_dur,
+        bounds: Bounds::of_attrs(attrs),
         end_list: end_list(&attrs.end),
         restart: tree.restart_of(who),
         fill: fill_by(attrs, tree.fill_of(who)),

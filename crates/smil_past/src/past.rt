@@ -1,11 +1,15 @@
 //! What has happened in a presentation so far.
 
-ghost use Rattle.std.specs.Prelude.{◌≡◌, ◌<◌, ◌≤◌, ℕ, [], ◌∷◌, ◌++◌, length, take, true, None, Some, is_some, OnOk, OnErr, IfOk, IfErr};
+ghost use Rattle.std.specs.Prelude.{◌≡◌, ◌<◌, ◌≤◌, ℕ, List, [], ◌∷◌, ◌++◌, length, take, true, None, Some, is_some, OnOk, OnErr, IfOk, IfErr};
 ghost use Rattle.smil_model.specs.declared.limits.TheConstants as limits;
+ghost use Rattle.smil_model.specs.declared.diary.LogEntry.{LogEntry as AnyLogEntry};
 ghost use Rattle.smil_model.specs.declared.document.Node.{Node as AnyNode};
-ghost use Rattle.smil_model.specs.document.Document.{elements, node_at};
+ghost use Rattle.std.specs.FinMap.{get};
+ghost use Rattle.smil_model.specs.document.Document.{elements, node_at, serials};
+ghost use Rattle.smil_instances.specs.Spread.{IsIndex};
 ghost use Rattle.smil_model.specs.diary.Diary.{is_active};
 ghost use Rattle.smil_model.specs.diary.Lawful.{has_element};
+ghost use Rattle.smil_graph.specs.Graph.{document_of};
 ghost use Rattle.smil_stretch.specs.Clocks.{AreClocksOf};
 ghost use Rattle.smil_past.specs.Played.{all_played};
 ghost use Rattle.smil_past.specs.Queues.{kept_queues};
@@ -19,6 +23,7 @@ use super::chronicle::Chronicle;
 use super::document::PreparedDocument;
 use super::kept::{KeptReadings, catch_up_keeping, drop_later, nearest};
 use super::makeup::Makeup;
+use super::places::shared_places;
 use super::plays::Plays;
 use super::queues::Queues;
 use super::syncs::Syncs;
@@ -26,7 +31,7 @@ use smil_diary::{Book, BookFault};
 use smil_graph::Graph;
 use smil_instance_rows::RowNotes;
 use smil_instances::Instances;
-use smil_model::{Duplicate, Entry, Log, LogEntry, Step};
+use smil_model::{Duplicate, Entry, Log, LogEntry, SerialTable, Step};
 use smil_stretch::Clocks;
 use smil_tree::Tree;
 use std::alloc::{AllocError, Global};
@@ -81,34 +86,6 @@ impl Model for Past {
         KeepsPast p.document.value p.log p.chronicle p.notes p.mark p.kept.items };
 }
 
-/// A document in place, with its graph.
-#[derive(Drop)]
-pub struct GraphedTree {
-    pub tree: Tree,
-    pub graph: Graph,
-}
-
-impl GraphedTree {
-    /// A document with its graph, which is made; unless memory runs out.
-    pub fn of(alloc: Global, tree: Tree) -> Result<GraphedTree, AllocError>
-        ensures tree { IfOk result (λ graphed. graphed.tree ≡ tree) }
-        ensures graph { IfOk result (λ graphed. graphed.graph.nodes ≡ graphed.tree.nodes) }
-    {
-        let graph = Graph::of(alloc, &tree)?;
-        Ok(GraphedTree { tree, graph })
-    }
-
-    /// An edited document with its graph, which is made anew only where the edit changes what a graph
-    /// reads; unless memory runs out.
-    pub fn revised(past: &Past, tree: Tree) -> Result<GraphedTree, AllocError>
-        ensures tree { IfOk result (λ graphed. graphed.tree ≡ tree) }
-        ensures graph { IfOk result (λ graphed. graphed.graph.nodes ≡ graphed.tree.nodes) }
-    {
-        let graph = past.graph().revised(past.tree(), &tree)?;
-        Ok(GraphedTree { tree, graph })
-    }
-}
-
 impl Past {
     /// A document to which nothing has happened yet, with a log of which nothing was heard yet;
     /// unless memory runs out. It takes time near linear in the document.
@@ -117,24 +94,35 @@ impl Past {
         ensures { IfOk result (λ past. past
             ≡ record { document = tree; log = log; diary = []; marked = None }) }
     {
-        Past::over(alloc, GraphedTree::of(alloc, tree)?, log)
+        let graph = Graph::of(alloc, tree)?;
+        let places = shared_places(alloc, graph.tree())?;
+        let instances = Instances::new(alloc, graph.tree(), &graph)?;
+        Past::over(alloc, graph, log, places, instances)
     }
 
-    // A document with its graph, to which nothing has happened yet, with a log of which nothing was
-    // heard yet.
-    fn over(alloc: Global, graphed: GraphedTree, log: Log) -> Result<Past, AllocError>
-        requires possible { IsPossible graphed.tree log [] }
-        requires graph { graphed.graph.nodes ≡ graphed.tree.nodes }
+    // A document with its graph and its instance times, to which nothing has happened yet, with a
+    // log of which nothing was heard yet.
+    fn over(
+        alloc: Global,
+        graph: Graph,
+        log: Log,
+        places: Rc<SerialTable>,
+        instances: Instances,
+    ) -> Result<Past, AllocError>
+        requires possible { IsPossible (document_of graph) log [] }
+        requires places { IsIndex (serials (elements graph.nodes)) (get places.value) }
+        requires instances { (any : List AnyLogEntry)
+            → IsSettled instances (document_of graph) any [] }
         ensures { IfOk result (λ past. past
-            ≡ record { document = graphed.tree; log = log; diary = []; marked = None }) }
+            ≡ record { document = document_of graph; log = log; diary = []; marked = None }) }
     {
-        let GraphedTree { tree, graph } = graphed;
-        let chronicle = Chronicle::new(alloc, &tree, &graph)?;
+        let shared = places.clone()?;
+        let chronicle = Chronicle::new(alloc, graph.tree(), shared, instances)?;
         let dependents = chronicle.readings.instances.dependents();
-        let syncs = Syncs::of(alloc, &tree, &graph, dependents)?;
+        let syncs = Syncs::of(alloc, &graph, dependents, places)?;
         let notes = chronicle.readings.instances.notes()?;
         Ok(Past {
-            document: Rc::new(alloc, PreparedDocument::new(tree, graph, syncs))?,
+            document: Rc::new(alloc, PreparedDocument::new(graph, syncs))?,
             log,
             chronicle,
             notes,
@@ -144,24 +132,39 @@ impl Past {
         })
     }
 
-    /// What has happened to a document, whose graph was made, by a log and these entries of a
-    /// diary; unless memory runs out.
-    pub fn of(
-        alloc: Global,
-        graphed: GraphedTree,
-        log: Log,
-        entries: &[Entry],
-    ) -> Result<Past, AllocError>
-        requires possible { IsPossible graphed.tree log entries.now }
-        requires graph { graphed.graph.nodes ≡ graphed.tree.nodes }
-        ensures { IfOk result (λ past. past
-            ≡ record { document = graphed.tree; log = log; diary = entries.now; marked = None }) }
+    /// What has happened to the document of a graph, by a log and these entries of a diary; unless
+    /// memory runs out. Where that document is alike to the one here, as `are_alike` of smil_graph
+    /// says, what the items follow from is shared.
+    pub fn revised(&self, graph: Graph, log: Log, entries: &[Entry]) -> Result<Past, AllocError>
+        requires { IsPossible (document_of graph) log entries.now }
+        ensures { IfOk result (λ past. past ≡ record {
+          document = document_of graph;
+          log = log;
+          diary = entries.now;
+          marked = None;
+        }) }
     {
-        let mut past = Past::over(alloc, graphed, log)?;
+        let places = self.places_of(graph.tree())?;
+        let instances = self.instances().revised(self.tree(), graph.tree())?;
+        let mut past = Past::over(self.alloc, graph, log, places, instances)?;
         for entry in entries {
             push(&mut past, *entry)?;
         }
         Ok(past)
+    }
+
+    // The places of the elements of an edited document: those of the document here where it has the
+    // same elements.
+    fn places_of(&self, after: &Tree) -> Result<Rc<SerialTable>, AllocError>
+        ensures { IfOk result (λ places. IsIndex (serials (elements after.now.nodes))
+            (get places.value)) }
+    {
+        if have_same_elements(self.tree(), after) {
+            let places = self.syncs().places().clone()?;
+            Ok(places)
+        } else {
+            shared_places(self.alloc, after)
+        }
     }
 
     /// Appends an entry, which may follow what has happened. `DiaryFull` only where the diary is
@@ -398,6 +401,14 @@ impl Past {
     {
         let _mark = &self.mark;
     }
+}
+
+// Whether two documents have the same elements.
+fn have_same_elements(before: &Tree, after: &Tree) -> bool
+    ensures { result ≡ true
+        → serials (elements before.now.nodes) ≡ serials (elements after.now.nodes) }
+{
+    before.elements() == after.elements()
 }
 
 // Appends an entry of a diary, which therefore is not full.

@@ -1,7 +1,9 @@
 //! The plays of all elements of a document.
 
 ghost use Rattle.std.specs.Prelude.{◌≡◌, ℕ, List, [], Some, None, IfOk, map, option_copied};
-ghost use Rattle.smil_model.specs.document.Document.{time_children};
+ghost use Rattle.std.specs.FinMap.{get};
+ghost use Rattle.smil_model.specs.document.Document.{elements, serials, time_children};
+ghost use Rattle.smil_instances.specs.Spread.{IsIndex};
 ghost use Rattle.smil_model.specs.document.Valid.{IsNumberedTree};
 ghost use Rattle.smil_model.specs.diary.Diary.{History, is_active, up_to};
 ghost use Rattle.smil_model.specs.diary.Lawful.{IsLawful};
@@ -16,15 +18,16 @@ ghost use Rattle.smil_past.specs.Followed.{IsEntryAfter, MayBeTaken};
 pub mod facts;
 mod row;
 
+use super::places::element_place;
 pub use facts::{PastInterval, PlayFacts};
 use row::{OwnEntry, own_row, turn_child};
-use smil_instances::elements::{elements, places_of};
 use smil_instances::{DocumentHistory, subject};
 use smil_model::{Duplicate, Entry, Log, SerialTable, Step, Time};
 use smil_stretch::Clocks;
 use smil_tree::Tree;
 use std::alloc::{AllocError, Global};
 use std::marker::Model;
+use std::rc::Rc;
 
 // What is kept of an element to which nothing has happened yet.
 const IDLE: PlayFacts = PlayFacts {
@@ -45,7 +48,7 @@ const IDLE: PlayFacts = PlayFacts {
 
 /// What a diary says of the plays of each element, seen as the list of it in document order.
 pub struct Plays {
-    places: SerialTable,
+    places: Rc<SerialTable>,
     rows: Vec<(u32, PlayFacts)>,
 }
 
@@ -70,28 +73,27 @@ impl Model for Plays {
 
     ghost view = { λ a. a.rows.items };
 
-    ghost invariant = { λ a. IsIndex (keys_of a.rows.items) (get a.places) };
+    ghost invariant = { λ a. IsIndex (keys_of a.rows.items) (get a.places.value) };
 }
 
 impl Duplicate for Plays {
     fn copy(&self) -> Result<Self, AllocError> {
         Ok(Plays {
-            places: self.places.copy()?,
+            places: self.places.clone()?,
             rows: Vec::from_slice(*self.rows.allocator(), &self.rows)?,
         })
     }
 }
 
 impl Plays {
-    /// The plays of the elements of a document to which nothing has happened yet, unless memory
-    /// runs out.
-    pub fn new(alloc: Global, tree: &Tree) -> Result<Plays, AllocError>
+    /// The plays of the elements of a document to which nothing has happened yet, with the places
+    /// of these elements; unless memory runs out.
+    pub fn new(alloc: Global, tree: &Tree, places: Rc<SerialTable>) -> Result<Plays, AllocError>
+        requires { IsIndex (serials (elements tree.now.nodes)) (get places.value) }
         ensures { (h : History) → h.nodes ≡ tree.now.nodes
             → IfOk result (λ plays. plays ≡ all_played (up_to h [])) }
     {
-        let whos = elements(alloc, tree)?;
-        let places = places_of(alloc, tree, &whos)?;
-        let rows = idle_rows(alloc, &whos)?;
+        let rows = idle_rows(alloc, tree.elements())?;
         Ok(Plays { places, rows })
     }
 
@@ -146,7 +148,7 @@ impl Plays {
     fn row(&self, who: u32) -> Option<&PlayFacts>
         ensures { option_copied result ≡ row_of self.now who }
     {
-        let place = self.places.get(who)?;
+        let place = element_place(&self.places, who)?;
         Some(&self.rows.get(place)?.1)
     }
 
@@ -160,7 +162,7 @@ impl Plays {
         let Some(who) = subject(log, entry.step) else {
             return;
         };
-        let Some(place) = self.places.get(who) else {
+        let Some(place) = element_place(&self.places, who) else {
             return;
         };
         let own = OwnEntry {
@@ -203,7 +205,7 @@ impl Plays {
     fn turn(&mut self, who: u32, birth: bool)
         ensures { IsAfterParent who birth self.old self.new }
     {
-        let Some(place) = self.places.get(who) else {
+        let Some(place) = element_place(&self.places, who) else {
             return;
         };
         turn_child(&mut self.rows[place].1, birth);

@@ -5,18 +5,22 @@ ghost use Rattle.smil_model.specs.declared.diary.LogEntry.{LogEntry as AnyLogEnt
 ghost use Rattle.smil_model.specs.diary.Diary.{History, with_entry};
 ghost use Rattle.smil_laws.specs.Near.{HasNear};
 ghost use Rattle.smil_instance_rows.specs.Notes.{GoesBackTheSame};
+ghost use Rattle.std.specs.FinMap.{get};
+ghost use Rattle.smil_model.specs.document.Document.{elements, serials};
+ghost use Rattle.smil_instances.specs.Instances.{IsSettled};
+ghost use Rattle.smil_instances.specs.Spread.{IsIndex};
 ghost use Rattle.smil_past.specs.Readings.{AreReadingsOf, FollowsAll, IsLast, MayBeFollowed, MayGoBack};
 
 use super::plays::Plays;
 use super::queues::Queues;
 use smil_diary::Book;
-use smil_graph::Graph;
 use smil_instance_rows::RowNotes;
 use smil_instances::{DocumentHistory, Instances};
-use smil_model::{DIARY_ENTRIES, Duplicate, Entry};
+use smil_model::{DIARY_ENTRIES, Duplicate, Entry, SerialTable};
 use smil_stretch::Clocks;
 use smil_tree::Tree;
 use std::alloc::{AllocError, Global};
+use std::rc::Rc;
 
 /// The clocks, the plays, the queues of excls and the instance times that a document and its diary
 /// give.
@@ -51,19 +55,25 @@ impl Duplicate for Readings {
 }
 
 impl Readings {
-    /// The readings of a document to which nothing has happened yet, unless memory runs out. The
-    /// graph is that of the tree.
-    pub fn new(alloc: Global, tree: &Tree, graph: &Graph) -> Result<Readings, AllocError>
-        requires { graph.now.nodes ≡ tree.now.nodes }
+    /// The readings of a document to which nothing has happened yet, with the places of its
+    /// elements and its instance times; unless memory runs out.
+    pub fn new(
+        alloc: Global,
+        tree: &Tree,
+        places: Rc<SerialTable>,
+        instances: Instances,
+    ) -> Result<Readings, AllocError>
+        requires places { IsIndex (serials (elements tree.now.nodes)) (get places.value) }
+        requires instances { (log : List AnyLogEntry) → IsSettled instances tree.now log [] }
         ensures { (log : List AnyLogEntry)
             → IfOk result (λ readings. AreReadingsOf readings tree.now log []) }
     {
         let book = Book::new(alloc);
         Ok(Readings {
             clocks: Clocks::of(alloc, tree, &book)?,
-            plays: Plays::new(alloc, tree)?,
+            plays: Plays::new(alloc, tree, places)?,
             queues: Queues::new(alloc, tree)?,
-            instances: Instances::new(alloc, tree, graph)?,
+            instances,
         })
     }
 

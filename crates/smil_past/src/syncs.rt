@@ -3,6 +3,8 @@
 ghost use Rattle.std.specs.Prelude.{◌≡◌, List, Some, IfOk, IsSome, option_copied, slice_get};
 ghost use Rattle.smil_model.specs.declared.document.Node.{Node as AnyNode};
 ghost use Rattle.smil_model.specs.document.Document.{elements, node_at, serials};
+ghost use Rattle.std.specs.FinMap.{get};
+ghost use Rattle.smil_instances.specs.Spread.{IsIndex};
 ghost use Rattle.smil_instances.specs.Dependents.{AreDependentsOf};
 ghost use Rattle.smil_past.specs.Makeups.{makeup_of};
 ghost use Rattle.smil_past.specs.Syncs.{all_syncs, sync_row, syncs_of};
@@ -12,21 +14,22 @@ mod lists;
 pub mod row;
 
 use crate::makeup::{Makeup, makeup_of};
+use crate::places::element_place;
 use lists::Reader;
 use row::SyncbaseRow;
 use smil_graph::Graph;
 use smil_instances::Dependents;
 pub use smil_instances::Syncbase;
-use smil_instances::elements::{elements, places_of};
 use smil_model::{Edge, SerialTable};
 use smil_tree::Tree;
 use std::alloc::{AllocError, Global};
 use std::marker::Model;
+use std::rc::Rc;
 
 /// What the items of each element of a document wait for, and what its attributes tell, in document
 /// order.
 pub struct Syncs {
-    places: SerialTable,
+    places: Rc<SerialTable>,
     rows: Vec<SyncbaseRow>,
 }
 
@@ -50,31 +53,38 @@ impl Model for Syncs {
 
     ghost view = { λ a. a.rows.items };
 
-    ghost invariant = { λ a. IsIndex (serials_in a.rows.items) (get a.places) };
+    ghost invariant = { λ a. IsIndex (serials_in a.rows.items) (get a.places.value) };
 }
 
 impl Syncs {
-    /// What the items of a document wait for and its attributes tell, unless memory runs out. The
-    /// graph is that of the tree, and so is what its items follow from.
+    /// What the items of a graph's document wait for and its attributes tell, unless memory runs
+    /// out; with what these items follow from, and the places of the elements.
     pub fn of(
         alloc: Global,
-        tree: &Tree,
         graph: &Graph,
         dependents: &Dependents,
+        places: Rc<SerialTable>,
     ) -> Result<Syncs, AllocError>
-        requires graph { graph.now.nodes ≡ tree.now.nodes }
-        requires dependents { AreDependentsOf tree.now.nodes dependents.now }
-        ensures { IfOk result (λ syncs. syncs ≡ all_syncs tree.now.nodes) }
+        requires dependents { AreDependentsOf graph.now.nodes dependents.now }
+        requires places { IsIndex (serials (elements graph.now.nodes)) (get places.value) }
+        ensures { IfOk result (λ syncs. syncs ≡ all_syncs graph.now.nodes) }
     {
-        let whos = elements(alloc, tree)?;
-        let places = places_of(alloc, tree, &whos)?;
         let reader = Reader {
             alloc,
             graph,
             dependents,
         };
-        let rows = rows_of(&reader, tree, &whos)?;
+        let tree = graph.tree();
+        let rows = rows_of(&reader, tree, tree.elements())?;
         Ok(Syncs { places, rows })
+    }
+
+    /// The places of the elements in document order, by their serials. It takes no memory.
+    pub fn places(&self) -> &Rc<SerialTable>
+        ensures { (nodes : List AnyNode) → self.now ≡ all_syncs nodes
+            → IsIndex (serials (elements nodes)) (get result.now.value) }
+    {
+        &self.places
     }
 
     /// What the begin or the end items of an element wait for. It takes no memory.
@@ -107,7 +117,7 @@ impl Syncs {
             → node_at (elements nodes) who ≡ Some e
             → option_copied result ≡ Some (sync_row nodes e) }
     {
-        match self.places.get(who) {
+        match element_place(&self.places, who) {
             Some(place) => row_at(&self.rows, place),
             None => None,
         }

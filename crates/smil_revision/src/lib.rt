@@ -6,5 +6,5 @@ mod references;
 mod values;
 
 pub use copies::{with_child, with_value, without_name, without_node};
-pub use references::{GraphedDocument, Revision, keeps_references};
+pub use references::{Revision, keeps_references};
 pub use values::{Child, LineText, Setting};

@@ -17,19 +17,12 @@ use smil_model::{Bytes, Edge, Items, Node, Who};
 use smil_tree::Tree;
 use std::alloc::{AllocError, Global};
 
-/// A document in place, with its graph.
-#[derive(Clone, Copy)]
-pub struct GraphedDocument<'a> {
-    pub tree: &'a Tree,
-    pub graph: &'a Graph,
-}
-
-/// A document before and after an edit of a node, with the serial of that node.
+/// The graphs of a document before and after an edit of a node, with the serial of that node.
 #[derive(Clone, Copy)]
 pub struct Revision<'a> {
     pub edited: u32,
-    pub old: GraphedDocument<'a>,
-    pub new: GraphedDocument<'a>,
+    pub old: &'a Graph,
+    pub new: &'a Graph,
 }
 
 /// The begin or the end list of an element in a graph, with the number of its items.
@@ -52,14 +45,10 @@ struct Marks {
 /// a node names the same element in both documents or none, and the items of each other element
 /// that both have are looped in both or in none.
 pub fn keeps_references(alloc: Global, revision: Revision<'_>) -> Result<bool, AllocError>
-    requires old_graph { revision.old.graph.now.nodes ≡ revision.old.tree.now.nodes }
-    requires new_graph { revision.new.graph.now.nodes ≡ revision.new.tree.now.nodes }
     ensures { IfOk result (λ keeps. keeps ≡ keeps_references revision.entry.edited
-        revision.entry.old.tree.now.nodes revision.entry.new.tree.now.nodes) }
+        revision.entry.old.now.nodes revision.entry.new.now.nodes) }
 {
-    let old = revision.old.tree;
-    let new = revision.new.tree;
-    if !keeps_all_ids(old, new)? {
+    if !keeps_all_ids(revision.old.tree(), revision.new.tree())? {
         return Ok(false);
     }
     keeps_loops(alloc, revision)
@@ -151,16 +140,14 @@ fn is_same_serial(one: Option<u32>, other: Option<u32>) -> bool
 
 // Whether the items of each other element that both documents have are looped in both or in none.
 fn keeps_loops(alloc: Global, revision: Revision<'_>) -> Result<bool, AllocError>
-    requires old_graph { revision.old.graph.now.nodes ≡ revision.old.tree.now.nodes }
-    requires new_graph { revision.new.graph.now.nodes ≡ revision.new.tree.now.nodes }
     ensures { IfOk result (λ keeps. keeps ≡ keeps_loops revision.entry.edited
-        revision.entry.old.tree.now.nodes revision.entry.new.tree.now.nodes) }
+        revision.entry.old.now.nodes revision.entry.new.now.nodes) }
 {
     let mut marks = Marks {
         before: Vec::new(alloc),
         after: Vec::new(alloc),
     };
-    for node in revision.old.tree.nodes() {
+    for node in revision.old.tree().nodes() {
         if node.kind.is_element() && !keeps_loops_of(revision, node.serial, &mut marks)? {
             return Ok(false);
         }
@@ -175,12 +162,10 @@ fn keeps_loops_of(
     serial: u32,
     marks: &mut Marks,
 ) -> Result<bool, AllocError>
-    requires old_graph { revision.old.graph.now.nodes ≡ revision.old.tree.now.nodes }
-    requires new_graph { revision.new.graph.now.nodes ≡ revision.new.tree.now.nodes }
     ensures { IfOk result (λ keeps. keeps ≡ keeps_loops_of revision.entry.edited
-        revision.entry.old.tree.now.nodes revision.entry.new.tree.now.nodes serial) }
+        revision.entry.old.now.nodes revision.entry.new.now.nodes serial) }
 {
-    if serial == revision.edited || item_counts(revision.new.tree, serial).is_none() {
+    if serial == revision.edited || item_counts(revision.new.tree(), serial).is_none() {
         return Ok(true);
     }
     loops(revision.old, serial, &mut marks.before)?;
@@ -190,29 +175,23 @@ fn keeps_loops_of(
 
 // Makes the marks those of the items of an element that are looped references; none for a serial of
 // no element.
-fn loops(
-    document: GraphedDocument<'_>,
-    serial: u32,
-    marks: &mut Vec<bool>,
-) -> Result<(), AllocError>
-    requires graph { document.graph.now.nodes ≡ document.tree.now.nodes }
+fn loops(graph: &Graph, serial: u32, marks: &mut Vec<bool>) -> Result<(), AllocError>
     ensures { OnOk result (marks.new.items
-        ≡ loops document.entry.tree.now.nodes
-        (node_at (elements document.entry.tree.now.nodes) serial)) }
+        ≡ loops graph.now.nodes (node_at (elements graph.now.nodes) serial)) }
 {
     marks.clear();
-    let Some((begins, ends)) = item_counts(document.tree, serial) else {
+    let Some((begins, ends)) = item_counts(graph.tree(), serial) else {
         return Ok(());
     };
     let begin = ItemList {
-        graph: document.graph,
+        graph,
         serial,
         edge: Edge::Begin,
         count: begins,
     };
     push_marks(begin, marks)?;
     let end = ItemList {
-        graph: document.graph,
+        graph,
         serial,
         edge: Edge::End,
         count: ends,

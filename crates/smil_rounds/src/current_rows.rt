@@ -17,7 +17,6 @@ use smil_element::{
     Container, Containers, DueChange, DueChanges, Intervals, Present, Room, Subject, comings_of,
     evaluation_of, is_same_coming, subject_of, walked_duration,
 };
-use smil_instances::elements::elements;
 use smil_interval::Steps;
 use smil_model::{ChildEnd, Duplicate, HasSerial, Interval, Key, SerialTable, Time, first_places};
 use smil_tree::Tree;
@@ -110,8 +109,7 @@ impl CurrentRows {
     pub fn of(alloc: Global, tree: &Tree) -> Result<CurrentRows, AllocError>
         ensures { IfOk result (λ known. known ≡ map empty_row (elements tree.now.nodes)) }
     {
-        let whos = elements(alloc, tree)?;
-        let rows = empty_rows(alloc, &whos)?;
+        let rows = empty_rows(alloc, tree.elements())?;
         Ok(CurrentRows {
             places: first_places(alloc, &rows)?,
             rows,

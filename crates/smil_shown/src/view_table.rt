@@ -12,7 +12,6 @@ ghost use Rattle.smil_shown.specs.ViewTable.{differs, has_view, view_in as view_
 use super::same::is_same;
 use smil_cells::{Cells, Table};
 use smil_element::{Present, view_of};
-use smil_instances::elements::elements;
 use smil_model::{SerialTable, Shown, State, View, first_places};
 use std::alloc::{AllocError, Global};
 use std::marker::Model;
@@ -71,11 +70,11 @@ impl ViewTable {
     {
         let tree = cells.tree();
         tree.valid();
-        let whos = elements(alloc, tree)?;
-        let rows = views_of(alloc, cells, &whos)?;
+        let whos = tree.elements();
+        let rows = views_of(alloc, cells, whos)?;
         Ok(ViewTable {
             rows,
-            places: first_places(alloc, &whos)?,
+            places: first_places(alloc, whos)?,
             noted: Vec::new(alloc),
         })
     }

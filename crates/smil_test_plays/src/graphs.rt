@@ -6,6 +6,7 @@ use super::documents::document;
 use smil_graph::Graph;
 use smil_model::{Bytes, Doc, Duplicate, Edge, Items, Node, Serials};
 use smil_test_cases::{Fault, Words, put, put_number, put_serials, put_word};
+use smil_tree::Tree;
 use std::alloc::{AllocError, Global};
 
 /// `graph LINE|LINE|..`: of each node of an outline its serial, and of an element the elements that
@@ -19,7 +20,7 @@ pub fn graph(alloc: Global, words: &mut Words<'_>, out: &mut Bytes) -> Result<()
 fn put_graph(alloc: Global, out: &mut Bytes, doc: &Doc) -> Result<(), Fault>
     requires { IsValid doc.now }
 {
-    let graph = Graph::of_doc(alloc, doc)?.copy()?;
+    let graph = Graph::of(alloc, Tree::of_doc(alloc, doc)?)?.copy()?;
     for node in doc.nodes() {
         put_node(alloc, out, &graph, node)?;
     }

@@ -11,13 +11,13 @@ use super::documents::document;
 use super::moments::{PlayMoment, put_clocks, put_instances};
 use super::orders::{lines_of, order_of, outline_and_orders};
 use smil_diary::BookFault;
+use smil_graph::Graph;
 use smil_instances::Instances;
-use smil_instances::elements::elements;
 use smil_interval::Steps;
 use smil_model::{
     Bytes, Doc, Duplicate, HORIZON, Happening, LOG_ENTRIES, LogEntry, Order, SERIALS, Who, WordList,
 };
-use smil_past::{GraphedTree, Past};
+use smil_past::Past;
 use smil_plain::PlainCells;
 use smil_stretch::Clocks;
 use smil_test_cases::{Fault, Words, put_bytes, put_flag, put_number};
@@ -163,20 +163,20 @@ fn refusal(fault: BookFault) -> Fault {
 // same.
 fn tell_clocks(alloc: Global, out: &mut Bytes, cells: &PlainCells) -> Result<(), Fault> {
     let moment = moment_of(cells)?;
-    let whos = elements(alloc, cells.tree())?;
+    let whos = cells.tree().elements();
     let mut shown = Bytes::new(alloc);
     let kept = PlayMoment {
         clocks: cells.clocks(),
         moment,
     };
-    put_clocks(&mut shown, &kept, &whos)?;
+    put_clocks(&mut shown, &kept, whos)?;
     let mut again = Bytes::new(alloc);
     let clocks = clocks_anew(alloc, cells.past())?;
     let anew = PlayMoment {
         clocks: &clocks,
         moment,
     };
-    put_clocks(&mut again, &anew, &whos)?;
+    put_clocks(&mut again, &anew, whos)?;
     put_number(out, moment)?;
     put_bytes(out, &shown)?;
     put_flag(out, shown == again)?;
@@ -204,16 +204,16 @@ fn clocks_anew(alloc: Global, past: &Past) -> Result<Clocks, AllocError> {
 // the same.
 fn tell_times(alloc: Global, out: &mut Bytes, cells: &PlainCells) -> Result<(), Fault> {
     let moment = moment_of(cells)?;
-    let whos = elements(alloc, cells.tree())?;
+    let whos = cells.tree().elements();
     let past = cells.past();
     let present = PlayMoment {
         clocks: past.clocks(),
         moment,
     };
     let mut anew = Bytes::new(alloc);
-    put_instances(&mut anew, &instances_anew(alloc, past)?, &present, &whos)?;
+    put_instances(&mut anew, &instances_anew(alloc, past)?, &present, whos)?;
     let mut kept = Bytes::new(alloc);
-    put_instances(&mut kept, past.instances(), &present, &whos)?;
+    put_instances(&mut kept, past.instances(), &present, whos)?;
     put_bytes(out, &anew)?;
     put_flag(out, anew == kept)?;
     Ok(())
@@ -248,9 +248,9 @@ fn past_of_first(alloc: Global, past: &Past, len: usize) -> Result<Past, AllocEr
     ensures { IfOk result (λ first. first.marked ≡ None) }
 {
     past.possible();
-    let graphed = GraphedTree::of(alloc, past.tree().copy()?)?;
+    let graph = Graph::of(alloc, past.tree().copy()?)?;
     let log = past.log().copy()?;
-    Past::of(alloc, graphed, log, &past.book().entries()[..len])
+    past.revised(graph, log, &past.book().entries()[..len])
 }
 
 // What had happened by the first half of the diary, to which a past without a mark goes back.
@@ -268,14 +268,14 @@ fn half_of(past: &mut Past) -> Result<Past, AllocError>
 // moment.
 fn past_text(alloc: Global, cells: &PlainCells, past: &Past) -> Result<Bytes, Fault> {
     let moment = moment_of(cells)?;
-    let whos = elements(alloc, cells.tree())?;
+    let whos = cells.tree().elements();
     let present = PlayMoment {
         clocks: past.clocks(),
         moment,
     };
     let mut text = Bytes::new(alloc);
     put_number(&mut text, past.book().len())?;
-    put_clocks(&mut text, &present, &whos)?;
-    put_instances(&mut text, past.instances(), &present, &whos)?;
+    put_clocks(&mut text, &present, whos)?;
+    put_instances(&mut text, past.instances(), &present, whos)?;
     Ok(text)
 }

@@ -57,7 +57,7 @@ pub struct Outline {
 impl Outline {
     /// The outline of no nodes. It takes no memory.
     pub fn new(alloc: Global) -> Outline
-        ensures { HasRoomFor result 0 }
+        ensures { IsOutlineOf [] result }
     {
         Outline {
             rows: Vec::new(alloc),

@@ -8,7 +8,7 @@ mod placing;
 mod removing;
 pub(crate) mod spans;
 
-ghost use Rattle.std.specs.Prelude.{◌≡◌, ℕ, ◌<◌, ◌≤◌, ◌==◌, List, [], ◌∷◌, take, length, true, Some, IsSome, IfOk, OnOk, slice_get, option_map, sum_by};
+ghost use Rattle.std.specs.Prelude.{◌≡◌, ℕ, ◌<◌, ◌≤◌, ◌==◌, List, [], ◌∷◌, take, length, true, Some, IsSome, IfOk, OnOk, slice_get, option_copied, option_map, sum_by};
 ghost use Rattle.std.specs.List.{position as first_place};
 ghost use Rattle.smil_model.specs.declared.document.Node.{Node as AnyNode};
 ghost use Rattle.smil_model.specs.document.Document.{Document, elements, node_at, serial_of, serials, time_parent as time_parent_of, time_children};
@@ -24,7 +24,7 @@ use super::ids::{Ids, note_node};
 use super::kin::Kin;
 use super::nodes::{Nodes, Walk};
 use super::outline::{Outline, OutlineRow};
-use smil_model::{Attrs, Doc, Duplicate, Kind, REFERENCES, Who, references_in};
+use smil_model::{Attrs, Doc, Duplicate, Kind, Node, REFERENCES, Who, references_in};
 use std::alloc::{AllocError, Global};
 use std::marker::Model;
 
@@ -135,6 +135,21 @@ impl Tree {
         ensures { result ≡ first_place (λ (n : AnyNode). n.serial == serial) self.now.nodes }
     {
         self.nodes.position(serial)
+    }
+
+    /// How many nodes there are. It takes no memory.
+    pub fn len(&self) -> usize
+        ensures { result ≡ length self.now.nodes }
+    {
+        self.nodes.len()
+    }
+
+    /// The node at a place in document order, from 0; None exactly where the place is not below the
+    /// number of nodes. It takes no memory.
+    pub fn at(&self, place: usize) -> Option<&Node>
+        ensures { option_copied result ≡ slice_get self.now.nodes place }
+    {
+        self.nodes.at(place)
     }
 
     /// The serial of the node at a place in document order, from 0; None exactly where the place is

@@ -6,4 +6,4 @@ use Rattle.smil_graph.specs.Ranks.{rank_of}
 use Rattle.smil_graph.proofs.ordered.ranks.Given as goal
 
 abbrev pub invariant-loop-place : goal.invariant-loop-place
-invariant-loop-place l = l.ranks.items ≡ map (rank_of l.levels l.heights) (filter (is_element_at l.doc.nodes) (range_with_len 0 l.place))
+invariant-loop-place l = l.ranks.items ≡ map (rank_of l.levels l.heights) (filter (is_element_at l.tree.nodes) (range_with_len 0 l.place))

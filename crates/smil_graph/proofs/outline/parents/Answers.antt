@@ -1,19 +1,18 @@
 use Rattle.std.proofs.Common.{◌≡◌, ◌∙◌, sym, ap, length, arith, Some}
-use Rattle.std.specs.FinMap.{get}
-use Rattle.std.specs.Prelude.{slice_get}
-use Rattle.std.proofs.lemmas.Option.{slice_get-get_or}
+use Rattle.std.specs.Prelude.{slice_get, option_copied}
 use Rattle.smil_model.specs.document.Document.{node_at}
-use Rattle.smil_graph.specs.Places.{parent_by}
+use Rattle.smil_graph.specs.Places.{parent_by, place_of}
+use Rattle.smil_graph.proofs.GraphTables.{all_placed}
 use Rattle.smil_graph.proofs.NodesByPlace.{parent_step, table_all}
 use Rattle.smil_graph.proofs.outline.parents.Goals as goal
 
-pub loop-node-preserved : goal.loop-node-preserved
-loop-node-preserved c =
-    let place = c.loop-node.node-index in
-    let node = c.node-item.result in
-    let at : slice_get c.args.doc.now.nodes place ≡ Some node = ap (λ ns. slice_get ns place) (sym c.nodes-node-items.ensures) ∙ slice_get-get_or c.nodes-node-items.result.now place node c.loop-node-test.true ∙ ap Some (sym c.node-item.is) in
-    let entry : c.get.result ≡ parent_by (get c.args.places.now) (slice_get c.args.doc.now.nodes place) = c.get.ensures ∙ ap (parent_by (get c.args.places.now)) (sym at) in
-    rw c.in_ok-push.ensures.items (rw entry (parent_step c.args.doc.now c.requires.tree (get c.args.places.now) c.requires.places place c.loop-node.parents.items c.loop-node.invariant))
+pub loop-place-preserved : goal.loop-place-preserved
+loop-place-preserved c =
+    let place = c.loop-place.place in
+    let node = c.unwrap-node.result.now in
+    let at : slice_get c.args.tree.now.nodes place ≡ Some node = sym c.at.ensures ∙ ap option_copied c.unwrap-node.ensures in
+    let entry : c.position.result ≡ parent_by (place_of c.args.tree.now.nodes) (slice_get c.args.tree.now.nodes place) = c.position.ensures ∙ ap (parent_by (place_of c.args.tree.now.nodes)) (sym at) in
+    rw c.in_ok-push.ensures.items (rw entry (parent_step c.args.tree.now c.requires (place_of c.args.tree.now.nodes) (all_placed c.args.tree.now.nodes) place c.loop-place.parents.items c.loop-place.invariant))
 
 pub returns : goal.returns
-returns c = table_all c.args.doc.now.nodes (λ n. node_at c.args.doc.now.nodes n.parent) c.loop-node.node-index c.loop-node.parents.items (omega (arith, ap length c.nodes-node-items.ensures)) c.loop-node.invariant
+returns c = table_all c.args.tree.now.nodes (λ n. node_at c.args.tree.now.nodes n.parent) c.loop-place.place c.loop-place.parents.items (omega (arith, c.len-place-end.ensures, c.loop-place-test.false, c.loop-place.auto.place-end)) c.loop-place.invariant

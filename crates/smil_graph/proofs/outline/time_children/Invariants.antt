@@ -9,6 +9,6 @@ use Rattle.smil_graph.proofs.outline.time_children.Given as goal
 -- the rows have the places before the present one
 abbrev pub invariant-loop-place : goal.invariant-loop-place
 invariant-loop-place l = record {
-  count : length l.rows.items ≡ length l.doc.nodes;
-  rows : (q : ℕ) → row l.rows.items q ≡ filter (λ p. is_element_at l.doc.nodes p && is_option q (up l.time_parents p)) (range_with_len 0 l.place);
+  count : length l.rows.items ≡ length l.tree.nodes;
+  rows : (q : ℕ) → row l.rows.items q ≡ filter (λ p. is_element_at l.tree.nodes p && is_option q (up l.time_parents p)) (range_with_len 0 l.place);
 }

@@ -3,4 +3,4 @@ use Rattle.smil_model.specs.document.Document.{time_parent}
 use Rattle.smil_graph.proofs.outline.time_parents.Given as goal
 
 abbrev pub invariant-loop-parent : goal.invariant-loop-parent
-invariant-loop-parent l = IsTableTo l.doc.nodes (λ n. time_parent l.doc.nodes n.serial) l.parent-index l.above.items
+invariant-loop-parent l = IsTableTo l.tree.nodes (λ n. time_parent l.tree.nodes n.serial) l.parent-index l.above.items

@@ -7,5 +7,5 @@ use Rattle.smil_graph.proofs.tables.readers.Goals as goal
 
 pub returns : goal.returns
 returns c =
-    let whole : c.loop-row.rows.items ≡ map (serials_of_places c.args.doc.now.nodes) c.args.heads.now = grind (arith, common_steps) in
-    rw whole (readers_are c.args.doc.now.nodes c.requires.distinct c.args.heads.now c.requires.heads)
+    let whole : c.loop-row.rows.items ≡ map (serials_of_places c.args.tree.now.nodes) c.args.heads.now = grind (arith, common_steps) in
+    rw whole (readers_are c.args.tree.now.nodes c.requires.distinct c.args.heads.now c.requires.heads)

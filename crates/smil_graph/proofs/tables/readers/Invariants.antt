@@ -4,4 +4,4 @@ use Rattle.smil_graph.specs.Tables.{serials_of_places}
 use Rattle.smil_graph.proofs.tables.readers.Given as goal
 
 abbrev pub invariant-loop-row : goal.invariant-loop-row
-invariant-loop-row l = l.rows.items ≡ map (serials_of_places l.doc.nodes) (take l.row-index l.heads)
+invariant-loop-row l = l.rows.items ≡ map (serials_of_places l.tree.nodes) (take l.row-index l.heads)

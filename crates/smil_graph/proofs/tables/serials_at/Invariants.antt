@@ -4,4 +4,4 @@ use Rattle.smil_graph.proofs.tables.serials_at.Given as goal
 
 abbrev pub invariant-loop-place : goal.invariant-loop-place
 invariant-loop-place l =
-    l.serials ++ serials_of_places l.doc.nodes (drop l.place-index l.places) ≡ serials_of_places l.doc.nodes l.places
+    l.serials ++ serials_of_places l.tree.nodes (drop l.place-index l.places) ≡ serials_of_places l.tree.nodes l.places

@@ -16,7 +16,7 @@ use Rattle.smil_instances.proofs.idle.idle_rows.Goals as goal
 pub idle_row-requires-clause-element : goal.idle_row-requires-clause-element
 idle_row-requires-clause-element c =
     let place = c.loop-place.place in
-    let here = at_place (elements c.args.tree.now.nodes) c.deref-who-items.result.now place (c.deref-who-items.ensures.value ∙ c.in_ok-whos.ensures) c.loop-place-test.true in
+    let here = at_place (elements c.args.tree.now.nodes) c.elements-whos.result.now place c.elements-whos.ensures c.loop-place-test.true in
     record {
       element = here.node;
       here = here.at;
@@ -29,7 +29,7 @@ push-requires c =
     let nodes = c.args.tree.now.nodes in
     let place = c.loop-place.place in
     let h = history_of c.args.tree.now [] [] in
-    let here = at_place (elements nodes) c.deref-who-items.result.now place (c.deref-who-items.ensures.value ∙ c.in_ok-whos.ensures) c.loop-place-test.true in
+    let here = at_place (elements nodes) c.elements-whos.result.now place c.elements-whos.ensures c.loop-place-test.true in
     ap (λ (rs : List ElementTimes). index_in rs c.in_ok-row.row.serial) (c.loop-place.invariant [])
     ∙ ap (λ (r : ElementTimes). index_in (map (row_of h) (take place (elements nodes))) r.serial) (c.in_ok-row.ensures [] here.node here.at)
     ∙ row_absent h (take place (elements nodes)) here.node.serial
@@ -40,7 +40,7 @@ loop-place-preserved c = λ log.
     let es = elements c.args.tree.now.nodes in
     let place = c.loop-place.place in
     let f = row_of (history_of c.args.tree.now log []) in
-    let here = at_place es c.deref-who-items.result.now place (c.deref-who-items.ensures.value ∙ c.in_ok-whos.ensures) c.loop-place-test.true in
+    let here = at_place es c.elements-whos.result.now place c.elements-whos.ensures c.loop-place-test.true in
     c.in_ok-push.ensures.ok
     ∙ ap (λ (r : ElementTimes). c.loop-place.rows ++ r ∷ []) (c.in_ok-row.ensures log here.node here.at)
     ∙ ap (λ (rs : List ElementTimes). rs ++ f here.node ∷ []) (c.loop-place.invariant log)
@@ -49,6 +49,6 @@ loop-place-preserved c = λ log.
 pub returns : goal.returns
 returns c = λ log.
     let es = elements c.args.tree.now.nodes in
-    let many : length c.deref-who-items.result.now ≡ length es = ap length (c.deref-who-items.ensures.value ∙ c.in_ok-whos.ensures) ∙ length-map es (λ (n : Node). n.serial) in
+    let many : length c.elements-whos.result.now ≡ length es = ap length c.elements-whos.ensures ∙ length-map es (λ (n : Node). n.serial) in
     c.loop-place.invariant log
     ∙ ap (map (row_of (history_of c.args.tree.now log []))) (take_all c.loop-place.place es (omega (arith, many, c.loop-place-test.false)))

@@ -1,9 +1,7 @@
 use Rattle.std.proofs.Common.{◌≡◌, ◌≤◌, ◌∙◌, sym, ap, subst, length, take, List, ◌-◌, arith}
-use Rattle.std.specs.Prelude.{IfOk}
 use Rattle.std.proofs.lemmas.List.{length-take, take-take}
 use Rattle.std.proofs.lemmas.Result.{IfOk-weaker}
 use Rattle.smil_model.specs.declared.diary.Entry.{Entry}
-use Rattle.smil_model.specs.document.Document.{Document}
 use Rattle.smil_past.specs.declared.kept.KeptReadings.{KeptReadings}
 use Rattle.smil_past.specs.Chronicle.{Lags, TellsNothing}
 use Rattle.smil_past.specs.Kept.{IsKept}
@@ -15,9 +13,9 @@ pub returns-in_default : goal.returns-in_default
 returns-in_default c = λ log len possible are.
     let document = c.args.document.now in
     let diary = take len c.args.book.now in
-    IfOk-weaker c.new.result (TellsNothing document log) (Lags document log diary)
+    IfOk-weaker c.nothing_yet.result (TellsNothing document log) (Lags document log diary)
     (λ k nothing. lags_new document log diary k possible nothing)
-    (subst (λ (d : Document). IfOk c.new.result (TellsNothing d log)) c.tree.ensures (c.new.ensures log))
+    (c.nothing_yet.ensures log)
 
 pub cut_back-requires : goal.cut_back-requires
 cut_back-requires c =

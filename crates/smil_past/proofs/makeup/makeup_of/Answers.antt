@@ -1,11 +1,8 @@
-use Rattle.std.proofs.Common.{◌≡◌, ◌∙◌, sym, ap, arith}
-use Rattle.std.proofs.lemmas.Int.{ints}
-use mir.Syntax.{w64}
-use mir.Val.{to_z, of_z}
+use Rattle.std.proofs.Common.{◌≡◌, ◌∙◌, sym, ap}
 use Rattle.smil_model.specs.declared.document.Attrs.{Attrs}
-use Rattle.smil_model.specs.document.Defaults.{fill_by, max_of, min_of}
+use Rattle.smil_model.specs.document.Defaults.{fill_by}
 use Rattle.smil_model.specs.interval.Current.{end_list_of}
-use Rattle.smil_model.specs.interval.Durations.{Bounds}
+use Rattle.smil_model.specs.interval.Durations.{bounds_of}
 use Rattle.smil_past.specs.Makeups.{stated_simple}
 use Rattle.smil_past.proofs.ElementMakeup.{fill_is, makeup_is, restart_is}
 use Rattle.smil_past.proofs.ItemReferences.{attrs_are}
@@ -16,13 +13,9 @@ returns c = λ e here.
     let nodes = c.args.tree.now.nodes in
     let who = c.args.who in
     let attrs : c.attrs-attrs.result.now ≡ e.attrs = sym (attrs_are nodes who e c.attrs-attrs.result.now c.attrs-attrs.ensures here) in
-    let low : to_z w64 (of_z w64 c.min.result) ≡ c.of_attrs-bounds.result.min = omega (arith, ints, c.min.ensures) in
-    makeup_is nodes e _ _ _ _ _ _ _ _
+    makeup_is nodes e _ _ _ _ _
     (c.stated_simple.ensures ∙ ap stated_simple attrs)
-    (low ∙ ap (λ (b : Bounds). b.min) c.of_attrs-bounds.ensures ∙ ap min_of attrs)
-    (c.max.ensures ∙ ap (λ (b : Bounds). b.max) c.of_attrs-bounds.ensures ∙ ap max_of attrs)
-    (ap (λ (a : Attrs). a.repeat_count) attrs)
-    (ap (λ (a : Attrs). a.repeat_dur) attrs)
+    (c.of_attrs.ensures ∙ ap bounds_of attrs)
     (c.end_list.ensures ∙ ap (λ (a : Attrs). end_list_of a.«end») attrs)
     (restart_is nodes who e c.restart_of.result here c.restart_of.ensures.restart)
     (c.fill_by.ensures ∙ ap (λ (a : Attrs). fill_by a c.fill_of.result) attrs ∙ ap (fill_by e.attrs) (fill_is nodes who e c.fill_of.result here c.fill_of.ensures.fill))

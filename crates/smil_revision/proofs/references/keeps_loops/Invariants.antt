@@ -8,6 +8,6 @@ use Rattle.smil_revision.proofs.references.keeps_loops.Given as goal
 -- all pass where those that are left do
 abbrev pub invariant-loop-node : goal.invariant-loop-node
 invariant-loop-node l =
-    let old = l.revision.old.tree.now.nodes in
-    let passes = λ (e : Node). keeps_loops_of l.revision.edited old l.revision.new.tree.now.nodes e.serial in
+    let old = l.revision.old.now.nodes in
+    let passes = λ (e : Node). keeps_loops_of l.revision.edited old l.revision.new.now.nodes e.serial in
     list_all passes (elements l.node-iterator) ≡ list_all passes (elements old)

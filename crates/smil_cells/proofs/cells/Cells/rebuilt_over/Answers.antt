@@ -5,6 +5,7 @@ use Rattle.smil_model.specs.declared.diary.Entry.{Entry}
 use Rattle.smil_model.specs.declared.diary.LogEntry.{LogEntry}
 use Rattle.smil_model.specs.diary.Diary.{last_moment}
 use Rattle.smil_model.specs.document.Document.{Document}
+use Rattle.smil_graph.specs.Graph.{document_of}
 use Rattle.smil_stretch.proofs.LawfulDiaries.{lawful_first}
 use Rattle.smil_past.specs.Past.{MarkedHistory, IsPossible, history_of}
 use Rattle.smil_cells.specs.CellsState.{CellsState, IsRebuilt, MayRebuild, WhereTold, any_interval, cut_log, interval_at}
@@ -13,13 +14,13 @@ use Rattle.smil_cells.proofs.FirstCells.{moment_is, possible_part, may_part, reb
 use Rattle.std.proofs.lemmas.Result.{IfOk-weaker}
 use Rattle.smil_cells.proofs.cells.Cells.rebuilt_over.Goals as goal
 
-pub of-requires-clause-possible : goal.of-requires-clause-possible
-of-requires-clause-possible g c =
+pub revised-requires : goal.revised-requires
+revised-requires g c =
     let i = c.self.inside in
     let len = c.args.len in
-    let doc = c.args.graphed.tree in
+    let doc = document_of c.args.graph in
     let s = standing_of i.past i.moment i.fault i.mark i.touched in
-    let may = subst (λ (x : CellsState). MayRebuild x doc len) (sym c.self.view_is) c.requires.rebuild in
+    let may = subst (λ (x : CellsState). MayRebuild x doc len) (sym c.self.view_is) c.requires in
     let lawful = lawful_first (history_of i.past) len c.possible.ensures.lawful in
     let log_is = c.in_ok-log.ensures ∙ (ap (λ (l : List LogEntry). cut_log l (take len c.book.result.now)) c.log.ensures ∙ ap (λ (d : List Entry). cut_log i.past.log (take len d)) c.book.ensures) in
     subst (λ (d : List Entry). IsPossible doc c.in_ok-log.log (take len d)) (sym (c.entries.ensures ∙ c.book-2.ensures))
@@ -30,9 +31,9 @@ pub over-requires : goal.over-requires
 over-requires g c =
     let i = c.self.inside in
     let len = c.args.len in
-    let doc = c.args.graphed.tree in
+    let doc = document_of c.args.graph in
     let s = standing_of i.past i.moment i.fault i.mark i.touched in
-    let may = subst (λ (x : CellsState). MayRebuild x doc len) (sym c.self.view_is) c.requires.rebuild in
+    let may = subst (λ (x : CellsState). MayRebuild x doc len) (sym c.self.view_is) c.requires in
     let lawful = lawful_first (history_of i.past) len c.possible.ensures.lawful in
     let log_is = c.in_ok-log.ensures ∙ (ap (λ (l : List LogEntry). cut_log l (take len c.book.result.now)) c.log.ensures ∙ ap (λ (d : List Entry). cut_log i.past.log (take len d)) c.book.ensures) in
     let part = cut_log i.past.log (take len i.past.diary) in
@@ -50,9 +51,9 @@ pub returns-clause-rebuilt : goal.returns-clause-rebuilt
 returns-clause-rebuilt g c =
     let i = c.self.inside in
     let len = c.args.len in
-    let doc = c.args.graphed.tree in
+    let doc = document_of c.args.graph in
     let s = standing_of i.past i.moment i.fault i.mark i.touched in
-    let may = subst (λ (x : CellsState). MayRebuild x doc len) (sym c.self.view_is) c.requires.rebuild in
+    let may = subst (λ (x : CellsState). MayRebuild x doc len) (sym c.self.view_is) c.requires in
     let log_is = c.in_ok-log.ensures ∙ (ap (λ (l : List LogEntry). cut_log l (take len c.book.result.now)) c.log.ensures ∙ ap (λ (d : List Entry). cut_log i.past.log (take len d)) c.book.ensures) in
     let part = cut_log i.past.log (take len i.past.diary) in
     let past_is : c.in_ok-past.past ≡ record { document = doc; log = part; diary = take len i.past.diary; marked = None } =

@@ -9,5 +9,5 @@ use Rattle.smil_graph.proofs.graph.Graph.shared.Goals as goal
 pub invariant_of-result : goal.invariant_of-result
 invariant_of-result c =
     let same : c.in_ok-clone.field-0.value ≡ c.self.inside.tables.value = search (c.in_ok-clone.ensures) in
-    let alike = ap (λ (g : OrderedNodes). all_reduced g.nodes) c.self.view_is ∙ c.requires.alike in
-    (c.requires.numbered, subst (λ (t : Tables). AreTables c.args.doc t) (sym same) (tables_alike c.self.inside.doc c.args.doc (c.requires.numbered).distinct alike c.self.inside.tables.value c.self.invariant.1))
+    let alike = ap (λ (g : OrderedNodes). all_reduced g.nodes) c.self.view_is ∙ c.requires in
+    (c.valid.ensures.numbered, subst (λ (t : Tables). AreTables c.args.after t) (sym same) (tables_alike c.self.inside.tree c.args.after (c.valid.ensures.numbered).distinct alike c.self.inside.tables.value c.self.invariant.1))

@@ -3,6 +3,7 @@ use Rattle.std.specs.Prelude.{IfErr, IfOk, OnOk, ◌-◌, ◌≤◌}
 use Rattle.smil_model.specs.document.Document.{Document}
 use Rattle.smil_model.specs.document.Valid.{IsValid}
 use Rattle.smil_model.specs.shown.Orders.{IsState, Presentation}
+use Rattle.smil_graph.specs.Graph.{document_of}
 use Rattle.smil_cells.specs.CellsState.{WhereTold}
 use Rattle.smil_live.specs.Counts.{least_loading}
 use Rattle.smil_live.specs.Moves.{IsReplayed, IsTooFull}
@@ -14,9 +15,9 @@ use Rattle.smil_live.proofs.presentation.PresentationOver.edited_cells.Goals as 
 use Rattle.smil_live.proofs.presentation.PresentationOver.edited_cells.Goals.{In_ok-len}
 
 -- the edited copy, and how many entries stay by the edit
-edit : (g : Over) (c : In_ok-len g) → IsEditedAt c.self.inside.viewer.cells c.self.inside.viewer.seen c.args.self.now c.in_ok-graphed.graphed.tree c.args.edited c.args.site c.in_ok-len.len
+edit : (g : Over) (c : In_ok-len g) → IsEditedAt c.self.inside.viewer.cells c.self.inside.viewer.seen c.args.self.now (document_of c.in_ok-graph.graph) c.args.edited c.args.site c.in_ok-len.len
 edit g c =
-    let same = c.in_ok-graphed.ensures.tree in
+    let same = c.in_ok-graph.ensures in
     record {
       is = c.self.invariant;
       view = c.self.view_is;
@@ -63,6 +64,6 @@ returns-clause-least g c =
     (edited_is (edit g (goal.at.returns-clause-least g c).In_ok-len))
     c.cells_with.ensures.least
 
-pub staying-requires-clause-made : goal.staying-requires-clause-made
-staying-requires-clause-made g c =
-    subst (λ (x : Document). IsMade c.args.self.now.document c.args.site x) (sym c.in_ok-graphed.ensures.tree) c.requires
+pub staying-requires : goal.staying-requires
+staying-requires g c =
+    subst (λ (x : Document). IsMade c.args.self.now.document c.args.site x) (sym c.in_ok-graph.ensures) c.requires

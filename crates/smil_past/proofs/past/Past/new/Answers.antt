@@ -1,13 +1,26 @@
 use Rattle.std.proofs.Common.{◌≡◌, sym, subst, []}
 use Rattle.std.specs.Prelude.{IfOk}
-use Rattle.smil_model.specs.document.Document.{Document}
+use Rattle.std.proofs.lemmas.Result.{IfOk-at_ok}
+use Rattle.std.specs.FinMap.{get}
+use Rattle.smil_model.specs.document.Document.{Document, elements, serials}
+use Rattle.smil_instances.specs.Instances.{IsSettled}
+use Rattle.smil_instances.specs.Spread.{IsIndex}
 use Rattle.smil_past.specs.Past.{IsPossible, MarkedHistory, unmarked}
 use Rattle.smil_past.proofs.past.Past.new.Goals as goal
 
 pub over-requires-clause-possible : goal.over-requires-clause-possible
 over-requires-clause-possible c =
-    subst (λ (d : Document). IsPossible d c.args.log []) (sym c.in_ok-of.ensures.tree) c.requires
+    subst (λ (d : Document). IsPossible d c.args.log []) (sym c.in_ok-graph.ensures) c.requires
+
+pub over-requires-clause-places : goal.over-requires-clause-places
+over-requires-clause-places c =
+    subst (λ (d : Document). IsIndex (serials (elements d.nodes)) (get c.in_ok-places.places.value)) c.tree.ensures c.in_ok-places.ensures
+
+pub over-requires-clause-instances : goal.over-requires-clause-instances
+over-requires-clause-instances c = λ log.
+    subst (λ (d : Document). IsSettled c.in_ok-instances.instances d log []) c.tree-2.ensures
+    (IfOk-at_ok (λ value. IsSettled value c.tree-2.result.now log []) c.in_ok-instances.was (c.new.ensures log))
 
 pub returns : goal.returns
 returns c =
-    subst (λ (d : Document). IfOk c.over.result (λ (past : MarkedHistory). past ≡ unmarked d c.args.log [])) c.in_ok-of.ensures.tree c.over.ensures
+    subst (λ (d : Document). IfOk c.over.result (λ (past : MarkedHistory). past ≡ unmarked d c.args.log [])) c.in_ok-graph.ensures c.over.ensures

@@ -9,7 +9,7 @@ use Rattle.smil_past.proofs.plays.Plays.reset.Goals as goal
 pub invariant_of-self : goal.invariant_of-self
 invariant_of-self c =
     let is = take_at c.reset_each.new.rows _ c.self.inside.rows.len (omega (arith, c.reset_each.auto.rows, c.deref_mut.ensures.len)) ∙ c.reset_each.ensures ∙ ap (map reset_row) c.deref_mut.ensures.value in
-    subst (λ (keys : List ℕ). IsIndex keys (get c.self.inside.places)) (sym (ap keys_of is ∙ keys_reset c.self.inside.rows.items)) c.self.invariant
+    subst (λ (keys : List ℕ). IsIndex keys (get c.self.inside.places.value)) (sym (ap keys_of is ∙ keys_reset c.self.inside.rows.items)) c.self.invariant
 
 pub returns : goal.returns
 returns c = λ h k are same.

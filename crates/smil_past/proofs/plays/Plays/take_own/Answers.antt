@@ -7,28 +7,28 @@ use Rattle.smil_past.proofs.OwnRows.{own_put, own_unknown}
 use Rattle.smil_past.proofs.PlayRows.{Row, first_below, first_indexed, first_key, keys_indexed, none_indexed, put_set, row_first}
 use Rattle.smil_past.proofs.plays.Plays.take_own.Goals as goal
 
-pub returns-in_default-get : goal.returns-in_default-get
-returns-in_default-get c = λ h are log.
+pub returns-in_default-element_place : goal.returns-in_default-element_place
+returns-in_default-element_place c = λ h are log.
     own_unknown h c.args.entry c.in-Some.who (ap (λ l. subject_of l c.args.entry.step) log ∙ sym c.subject.ensures ∙ c.in-Some.is) c.args.self.now
     (ap (λ rows. row_of rows c.in-Some.who) (sym c.self.view_is)
-    ∙ none_indexed c.in-Some.who c.self.inside.rows.items (get c.self.inside.places) c.self.invariant (sym c.in_default-get.ensures))
+    ∙ none_indexed c.in-Some.who c.self.inside.rows.items (get c.self.inside.places.value) c.self.invariant (sym c.in_default-element_place.ensures))
 
 pub index_mut-requires : goal.index_mut-requires
 index_mut-requires c =
     let rows = c.self.inside.rows in
-    let place = c.in-Some-get.place in
-    let first = first_indexed c.in-Some.who rows.items (get c.self.inside.places) c.self.invariant place (sym c.in-Some-get.ensures) in
+    let place = c.in-Some-element_place.place in
+    let first = first_indexed c.in-Some.who rows.items (get c.self.inside.places.value) c.self.invariant place (sym c.in-Some-element_place.ensures) in
     omega (arith, rows.ok.0, first_below c.in-Some.who rows.items place first)
 
 pub invariant_of-self : goal.invariant_of-self
 invariant_of-self c =
     let who = c.in-Some.who in
     let rows = c.self.inside.rows.items in
-    let place = c.in-Some-get.place in
+    let place = c.in-Some-element_place.place in
     let e : Row = c.index_mut.result.now in
-    let first = first_indexed who rows (get c.self.inside.places) c.self.invariant place (sym c.in-Some-get.ensures) in
+    let first = first_indexed who rows (get c.self.inside.places.value) c.self.invariant place (sym c.in-Some-element_place.ensures) in
     let key : e.0 ≡ who = ap (λ (r : Row). r.0) c.index_mut.ensures.value ∙ first_key who rows place e first in
-    keys_indexed rows _ (get c.self.inside.places)
+    keys_indexed rows _ (get c.self.inside.places.value)
     (ap (λ s. keys_of (set rows place (s, c.own_row.new.row))) key ∙ (put_set who c.own_row.new.row rows place first).same_keys)
     c.self.invariant
 
@@ -36,10 +36,10 @@ pub returns : goal.returns
 returns c = λ h are log.
     let who = c.in-Some.who in
     let rows = c.self.inside.rows.items in
-    let place = c.in-Some-get.place in
+    let place = c.in-Some-element_place.place in
     let e : Row = c.index_mut.result.now in
     let row = c.own_row.new.row in
-    let first = first_indexed who rows (get c.self.inside.places) c.self.invariant place (sym c.in-Some-get.ensures) in
+    let first = first_indexed who rows (get c.self.inside.places.value) c.self.invariant place (sym c.in-Some-element_place.ensures) in
     let key : e.0 ≡ who = ap (λ (r : Row). r.0) c.index_mut.ensures.value ∙ first_key who rows place e first in
     let had : row_of rows who ≡ Some e.1 = row_first who rows place e first ∙ ap (λ (r : Row). Some r.1) (sym c.index_mut.ensures.value) in
     let on : subject_of h.log c.args.entry.step ≡ Some who = ap (λ l. subject_of l c.args.entry.step) log ∙ sym c.subject.ensures ∙ c.in-Some.is in

@@ -11,13 +11,13 @@ pub returns-in_default : goal.returns-in_default
 returns-in_default c =
     turn_none c.args.who c.args.birth c.args.self.now
     (ap (λ rows. row_of rows c.args.who) (sym c.self.view_is)
-    ∙ none_indexed c.args.who c.self.inside.rows.items (get c.self.inside.places) c.self.invariant (sym c.in_default.ensures))
+    ∙ none_indexed c.args.who c.self.inside.rows.items (get c.self.inside.places.value) c.self.invariant (sym c.in_default.ensures))
 
 pub index_mut-requires : goal.index_mut-requires
 index_mut-requires c =
     let rows = c.self.inside.rows in
     let place = c.in-Some.place in
-    let first = first_indexed c.args.who rows.items (get c.self.inside.places) c.self.invariant place (sym c.in-Some.ensures) in
+    let first = first_indexed c.args.who rows.items (get c.self.inside.places.value) c.self.invariant place (sym c.in-Some.ensures) in
     omega (arith, rows.ok.0, first_below c.args.who rows.items place first)
 
 pub invariant_of-self : goal.invariant_of-self
@@ -26,9 +26,9 @@ invariant_of-self c =
     let rows = c.self.inside.rows.items in
     let place = c.in-Some.place in
     let e : Row = c.index_mut.result.now in
-    let first = first_indexed who rows (get c.self.inside.places) c.self.invariant place (sym c.in-Some.ensures) in
+    let first = first_indexed who rows (get c.self.inside.places.value) c.self.invariant place (sym c.in-Some.ensures) in
     let key : e.0 ≡ who = ap (λ (r : Row). r.0) c.index_mut.ensures.value ∙ first_key who rows place e first in
-    keys_indexed rows _ (get c.self.inside.places)
+    keys_indexed rows _ (get c.self.inside.places.value)
     (ap (λ s. keys_of (set rows place (s, c.turn_child.new.row))) key ∙ (put_set who c.turn_child.new.row rows place first).same_keys)
     c.self.invariant
 
@@ -38,7 +38,7 @@ returns c =
     let rows = c.self.inside.rows.items in
     let place = c.in-Some.place in
     let e : Row = c.index_mut.result.now in
-    let first = first_indexed who rows (get c.self.inside.places) c.self.invariant place (sym c.in-Some.ensures) in
+    let first = first_indexed who rows (get c.self.inside.places.value) c.self.invariant place (sym c.in-Some.ensures) in
     let key : e.0 ≡ who = ap (λ (r : Row). r.0) c.index_mut.ensures.value ∙ first_key who rows place e first in
     let had : row_of rows who ≡ Some e.1 = row_first who rows place e first ∙ ap (λ (r : Row). Some r.1) (sym c.index_mut.ensures.value) in
     let same : (e.0, c.turn_child.new.row) ≡ (who, child_after c.args.birth (not c.args.birth) e.1) = λ i. (key i, c.turn_child.ensures i) in

@@ -3,7 +3,6 @@ use Rattle.std.proofs.lemmas.Result.{IfOk-at_ok}
 use Rattle.smil_stretch.specs.Clocks.{AreClocksOf}
 use Rattle.smil_past.specs.Played.{all_played}
 use Rattle.smil_past.specs.Queues.{kept_queues}
-use Rattle.smil_instances.specs.Instances.{IsSettled}
 use Rattle.smil_instances.specs.Intake.{history_of}
 use Rattle.smil_past.proofs.readings.Readings.new.Goals as goal
 
@@ -22,5 +21,5 @@ returns c = λ log.
           (c.of.ensures h (record { same_nodes = refl; same_diary = sym c.new-book.ensures; lawful = record { moments = refl; steps = tt } }));
       plays_are = IfOk-at_ok (λ plays. plays ≡ all_played h) c.in_ok-new.was (c.new.ensures h refl);
       queues_are = IfOk-at_ok (λ queues. queues ≡ kept_queues h) c.in_ok-new-2.was (c.new-2.ensures log);
-      instances_are = IfOk-at_ok (λ value. IsSettled value c.args.tree.now log []) c.in_ok-new-3.was (c.new-3.ensures log);
+      instances_are = c.requires.instances log;
     }

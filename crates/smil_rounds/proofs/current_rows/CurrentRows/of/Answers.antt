@@ -10,11 +10,11 @@ use Rattle.smil_rounds.proofs.current_rows.CurrentRows.of.Goals as goal
 pub invariant_of-result : goal.invariant_of-result
 invariant_of-result c =
     let es = elements c.args.tree.now.nodes in
-    let rows_are : c.in_ok-rows.rows.items ≡ map empty_row es = c.in_ok-rows.ensures ∙ ap (map row_without) (c.deref.ensures.value ∙ c.in_ok-whos.ensures) ∙ empty_by_serials es in (
+    let rows_are : c.in_ok-rows.rows.items ≡ map empty_row es = c.in_ok-rows.ensures ∙ ap (map row_without) c.elements.ensures ∙ empty_by_serials es in (
       subst AreNear (sym rows_are) (empty_near es),
-      λ s. c.in_ok-first_places.ensures s ∙ ap (position (λ (r : CurrentRow). r.serial == s)) c.deref-2.ensures.value,
+      λ s. c.in_ok-first_places.ensures s ∙ ap (position (λ (r : CurrentRow). r.serial == s)) c.deref.ensures.value,
     )
 
 pub returns : goal.returns
 returns c =
-    c.in_ok-rows.ensures ∙ ap (map row_without) (c.deref.ensures.value ∙ c.in_ok-whos.ensures) ∙ empty_by_serials (elements c.args.tree.now.nodes)
+    c.in_ok-rows.ensures ∙ ap (map row_without) c.elements.ensures ∙ empty_by_serials (elements c.args.tree.now.nodes)

@@ -9,13 +9,13 @@ use Rattle.smil_shown.proofs.AllViews.{one_each, place_of_view}
 use Rattle.smil_shown.proofs.view_table.ViewTable.of.Goals as goal
 
 pub views_of-requires-clause-all : goal.views_of-requires-clause-all
-views_of-requires-clause-all g c = c.deref.ensures.value ∙ c.in_ok-whos.ensures ∙ ap (λ (d : Document). serials (elements d.nodes)) c.tree-tree.ensures
+views_of-requires-clause-all g c = c.elements-whos.ensures ∙ ap (λ (d : Document). serials (elements d.nodes)) c.tree-tree.ensures
 
 pub invariant_of-result : goal.invariant_of-result
 invariant_of-result g c =
     let f = view_now c.args.cells.now in
     let nodes = c.args.cells.now.presentation.document.nodes in
-    let whos = c.deref-2.ensures.value ∙ c.in_ok-whos.ensures ∙ ap (λ (d : Document). serials (elements d.nodes)) c.tree-tree.ensures in
+    let whos = c.elements-whos.ensures ∙ ap (λ (d : Document). serials (elements d.nodes)) c.tree-tree.ensures in
     record {
       place = λ s.
           c.in_ok-first_places.ensures s ∙ ap (position (λ (n : ℕ). n == s)) whos ∙ place_of_view f (λ n. refl) (elements nodes) s

@@ -1,0 +1,55 @@
+use Rattle.std.proofs.Common.{sym, ◌∙◌, ap, subst, List, None, ◌∷◌, ◌++◌, [], get_or}
+use Rattle.std.proofs.lemmas.List.{take_all}
+use Rattle.std.proofs.lemmas.Option.{slice_get-get_or}
+use Rattle.std.proofs.lemmas.Result.{IfOk-at_ok}
+use Rattle.smil_model.specs.declared.diary.Entry.{Entry}
+use Rattle.std.specs.FinMap.{get}
+use Rattle.smil_model.specs.document.Document.{Document, elements, serials}
+use Rattle.smil_laws.proofs.Lists.{take-more_at}
+use Rattle.smil_graph.specs.Graph.{document_of}
+use Rattle.smil_stretch.proofs.IdleClocks.{no_entry}
+use Rattle.smil_instances.specs.Dependents.{AreDependentsOf}
+use Rattle.smil_instances.specs.Instances.{IsSettled}
+use Rattle.smil_instances.specs.Spread.{IsIndex}
+use Rattle.smil_past.specs.Past.{MarkedHistory, MayFollow, with_diary}
+use Rattle.smil_past.proofs.FirstEntries.{follows_at, possible_before}
+use Rattle.smil_past.proofs.past.Past.revised.Goals as goal
+
+pub revised-requires : goal.revised-requires
+revised-requires c =
+    subst (λ (d : Document). AreDependentsOf d.nodes c.instances.result.now.dependents) (sym c.tree-2.ensures) c.instances.ensures.dependents
+
+pub over-requires-clause-places : goal.over-requires-clause-places
+over-requires-clause-places c =
+    subst (λ (d : Document). IsIndex (serials (elements d.nodes)) (get c.in_ok-places.places.value)) c.tree.ensures c.in_ok-places.ensures
+
+pub over-requires-clause-instances : goal.over-requires-clause-instances
+over-requires-clause-instances c = λ log.
+    subst (λ (d : Document). IsSettled c.in_ok-instances.instances d log []) c.tree-3.ensures
+    (IfOk-at_ok (λ value. IsSettled value c.tree-3.result.now log []) c.in_ok-instances.was (c.revised.ensures log))
+
+pub over-requires-clause-possible : goal.over-requires-clause-possible
+over-requires-clause-possible c = possible_before (document_of c.args.graph) c.args.log c.args.entries.now c.requires
+
+pub push-requires : goal.push-requires
+push-requires c =
+    let diary = c.args.entries.now in
+    let i = c.loop-entry.entry-index in
+    let y = get_or diary i no_entry in
+    subst (λ (v : MarkedHistory). MayFollow v y) (sym c.loop-entry.invariant)
+    (follows_at (document_of c.args.graph) c.args.log diary i y c.requires (slice_get-get_or diary i no_entry c.loop-entry-test.true))
+
+pub loop-entry-preserved : goal.loop-entry-preserved
+loop-entry-preserved c =
+    let diary = c.args.entries.now in
+    let i = c.loop-entry.entry-index in
+    let y = get_or diary i no_entry in
+    c.in_ok-push.ensures
+    ∙ ap (λ (v : MarkedHistory). with_diary v (v.diary ++ y ∷ [])) c.loop-entry.invariant
+    ∙ ap (λ (ds : List Entry). record { document = document_of c.args.graph; log = c.args.log; diary = ds; marked = None })
+    (sym (take-more_at diary i y (slice_get-get_or diary i no_entry c.loop-entry-test.true)))
+
+pub returns : goal.returns
+returns c =
+    c.loop-entry.invariant
+    ∙ ap (λ (ds : List Entry). record { document = document_of c.args.graph; log = c.args.log; diary = ds; marked = None }) (take_all c.loop-entry.entry-index c.args.entries.now c.loop-entry-test.false)
