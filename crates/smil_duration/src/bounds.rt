@@ -1,6 +1,6 @@
 //! What limits a play beside its simple duration, and the durations that follow.
 
-ghost use Rattle.std.specs.Prelude.{◌≡◌, ◌^◌, ◌≤ℤ◌, ◌<ℤ◌, pos, negsuc};
+ghost use Rattle.std.specs.Prelude.{◌≡◌, ◌^◌, ◌≤ℤ◌, ◌<ℤ◌, ◌||◌, is_some, pos, negsuc};
 ghost use Rattle.smil_model.specs.Times.{thousandths_of};
 ghost use Rattle.smil_model.specs.declared.times.Time.TheVariants.{At};
 ghost use Rattle.smil_model.specs.interval.Durations;
@@ -78,9 +78,17 @@ impl Bounds {
         self.max
     }
 
+    /// Whether the attributes have what repeats a play: a repeat count or a repeat duration.
+    pub fn repeats(&self) -> bool
+        ensures { result ≡ (is_some self.now.count || is_some self.now.repeat_dur) }
+    {
+        self.count.is_some() || self.repeat_dur.is_some()
+    }
+
     /// The intermediate active duration, in milliseconds: the least of the repeat count's and the
     /// repeat duration's, and the simple duration where neither is given. SMIL 3.0, "Computing the
     /// active duration".
+    #[inline(always)]
     pub fn intermediate(&self, simple: Time) -> Time
         ensures { result ≡ intermediate_duration self.now simple }
     {
@@ -97,6 +105,7 @@ impl Bounds {
 
     /// The active duration, in milliseconds: the intermediate one, between `min` and `max`. SMIL
     /// 3.0, "Computing the active duration".
+    #[inline(always)]
     pub fn active(&self, simple: Time) -> Time
         ensures { result ≡ active_duration self.now simple }
     {
@@ -126,6 +135,7 @@ impl Bounds {
     }
 
     // A time between `min` and `max` after `start`.
+    #[inline(always)]
     fn within(&self, start: i64, time: Time) -> Time
         ensures { result ≡ within_bounds self.now start time }
     {

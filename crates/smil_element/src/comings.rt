@@ -7,22 +7,18 @@ ghost use Rattle.smil_model.specs.diary.Diary.{iteration};
 ghost use Rattle.smil_model.specs.diary.Clocks.{iteration_start, play_start, run, stands, to_document as document_time};
 ghost use Rattle.smil_model.specs.declared.document.Node.{Node as AnyNode};
 ghost use Rattle.smil_model.specs.document.Document.{elements, node_at};
-ghost use Rattle.smil_model.specs.diary.Lawful.{has_element};
 ghost use Rattle.smil_laws.specs.Near.{IsIntervalNear};
 ghost use Rattle.smil_past.specs.Past.{history_of};
 ghost use Rattle.smil_element.specs.Element.{and_coming, both, goes_on, moved_by};
 ghost use Rattle.smil_model.specs.happening.Keys.{coming_begin, coming_by, coming_end, coming_repeat, coming_repeat_at};
-ghost use Rattle.smil_model.specs.interval.Durations.{bounds_of};
 ghost use Rattle.smil_element.specs.Parts.{coming_meant};
 ghost use Rattle.smil_element.specs.Subject.{IsFound};
 
 use super::evaluation::Evaluation;
-use super::facts::attrs_of;
 use super::happening::{Change, DueChange};
 use super::subject::Subject;
 use smil_duration::Bounds;
 use smil_model::{BEGIN_CLASS, EMPTY_END_CLASS, END_CLASS, Interval, Key, Play, Time, later};
-use smil_past::{Makeup, Past};
 
 /// What comes of an element: its begin or its end, and its repeat.
 #[derive(Clone, Copy)]
@@ -164,14 +160,7 @@ fn may_repeat(subject: &Subject<'_>) -> bool
         ≡ Some e → result ≡ (is_some e.attrs.repeat_count || is_some e.attrs.repeat_dur)
         && not (stands (history_of subject.now.present.past.now) subject.now.present.who) }
 {
-    repeats(subject.row.makeup()) && !subject.clocks.own_stands
-}
-
-// Whether attributes have what repeats an element.
-fn repeats(makeup: &Makeup) -> bool
-    ensures { result ≡ (is_some makeup.now.count || is_some makeup.now.repeat_dur) }
-{
-    makeup.count.is_some() || makeup.repeat_dur.is_some()
+    subject.row.makeup().bounds.repeats() && !subject.clocks.own_stands
 }
 
 // The repeat of an element that may repeat, where its iteration ends at a number and another
@@ -191,8 +180,7 @@ fn repeat_at(subject: &Subject<'_>, place: u32, simple: Time) -> Option<DueChang
     let Time::At(over) = later(simple, play.start) else {
         return None;
     };
-    let bounds = bounds_of(subject.present.past, subject.present.who);
-    if !goes_on(bounds, simple, &play, over) {
+    if !goes_on(&subject.row.makeup().bounds, simple, &play, over) {
         return None;
     }
     Some(DueChange {
@@ -205,15 +193,6 @@ fn repeat_at(subject: &Subject<'_>, place: u32, simple: Time) -> Option<DueChang
         },
         change: Change::Repeats { start: over },
     })
-}
-
-// What limits the plays of an element.
-fn bounds_of(past: &Past, who: u32) -> Bounds
-    requires { has_element past.now.document.nodes who ≡ true }
-    ensures { (e : AnyNode) → node_at (elements past.now.document.nodes) who ≡ Some e
-        → result ≡ bounds_of e.attrs }
-{
-    Bounds::of_attrs(attrs_of(past, who))
 }
 
 // The moment at which the own clock of an element shows a value, if it goes on as now.
@@ -249,8 +228,8 @@ fn last_play(subject: &Subject<'_>) -> Play
 
 // Whether another iteration follows the one that is over at this time: a simple duration of 0 isn't
 // repeated, and none begins where the iterations or the repeat duration end.
-fn goes_on(bounds: Bounds, simple: Time, play: &Play, over: i64) -> bool
-    ensures { result ≡ goes_on bounds simple play.now over }
+fn goes_on(bounds: &Bounds, simple: Time, play: &Play, over: i64) -> bool
+    ensures { result ≡ goes_on bounds.now simple play.now over }
 {
     is_after(simple, 0) && is_after(bounds.intermediate_end(simple, play), over)
 }

@@ -32,6 +32,7 @@ pub struct EvaluationInput<'a, 'b, J: Intervals> {
 /// The time that an item of an element gives by the interval of the element that it waits for; None
 /// where that has no interval, where its begin is meant and has happened, where its end is meant
 /// and is no number, and where one of the two clocks stands. It takes no memory.
+#[inline(always)]
 pub fn expected<J: Intervals>(reading: &EvaluationInput<J>, sync: Syncbase) -> Option<Time>
     requires { IsFound reading.now.subject.now }
     ensures { option_to_list result
@@ -46,6 +47,7 @@ pub fn expected<J: Intervals>(reading: &EvaluationInput<J>, sync: Syncbase) -> O
 
 // A value on the clock of the time parent of `from`, on that of the time parent of the element;
 // None where one of these two clocks stands.
+#[inline(always)]
 fn shown_here(subject: &Subject<'_>, from: u32, value: i64) -> Option<i64>
     requires found { IsFound subject.now }
     requires near { IsNear value }
@@ -68,6 +70,7 @@ fn shown_here(subject: &Subject<'_>, from: u32, value: i64) -> Option<i64>
 }
 
 // The begin of an interval before it has happened, or its end where that is a number.
+#[inline(always)]
 fn edge_value<J: Intervals>(reading: &EvaluationInput<J>, sync: Syncbase) -> Option<i64>
     ensures value { result ≡ interval_edge sync.edge
         (is_active reading.now.subject.now.present.past.now.diary sync.of)
@@ -93,6 +96,7 @@ fn edge_value<J: Intervals>(reading: &EvaluationInput<J>, sync: Syncbase) -> Opt
 
 /// The begin instance times of an element, in rising order: those that the diary gives, with the
 /// expected ones in their places. Refused where memory runs out.
+#[inline(always)]
 pub fn pour_begins<J: Intervals>(
     reading: &EvaluationInput<J>,
     times: &mut Vec<i64>,
@@ -106,13 +110,13 @@ pub fn pour_begins<J: Intervals>(
 {
     let subject = reading.subject;
     let Present { past, who, .. } = subject.present;
-    times.clear();
-    times.extend_from_slice(past.instances().begins(who))?;
+    refill(times, past.instances().begins(who))?;
     pour(reading, subject.row.side(Edge::Begin), times)
 }
 
 /// The end instance times of an element, in rising order: those that the diary gives, with the
 /// expected ones in their places. Refused where memory runs out.
+#[inline(always)]
 pub fn pour_ends<J: Intervals>(
     reading: &EvaluationInput<J>,
     times: &mut Vec<Time>,
@@ -126,8 +130,7 @@ pub fn pour_ends<J: Intervals>(
 {
     let subject = reading.subject;
     let Present { past, who, .. } = subject.present;
-    times.clear();
-    times.extend_from_slice(past.instances().ends(who))?;
+    refill(times, past.instances().ends(who))?;
     pour(reading, subject.row.side(Edge::End), times)
 }
 
@@ -143,8 +146,21 @@ pub fn is_settled(subject: &Subject<'_>, side: Edge) -> bool
     subject.row.side(side).is_empty()
 }
 
+// Puts values in place of those of a list; unless memory runs out.
+#[inline(always)]
+fn refill<T: Instant>(times: &mut Vec<T>, values: &[T]) -> Result<(), AllocError>
+    ensures { OnOk result (times.new.items ≡ values.now) }
+{
+    times.clear();
+    if values.is_empty() {
+        return Ok(());
+    }
+    times.extend_from_slice(values)
+}
+
 // Puts the expected times of an element by what its items wait for in their places among rising
 // ones.
+#[inline(always)]
 fn pour<T: Instant, J: Intervals>(
     reading: &EvaluationInput<J>,
     syncs: &[Syncbase],
@@ -165,6 +181,7 @@ fn pour<T: Instant, J: Intervals>(
 }
 
 // Puts the value that a time gives, if there is one, in its place among rising ones.
+#[inline(always)]
 fn put_some<T: Instant>(times: &mut Vec<T>, time: Option<Time>) -> Result<(), AllocError>
     requires { IsRising T.at_most times.old.items }
     ensures { OnOk result (times.new.items

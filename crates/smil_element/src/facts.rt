@@ -15,11 +15,12 @@ ghost use Rattle.smil_element.specs.Element.{interval_in, shift_of};
 ghost use Rattle.smil_element.specs.Subject.{IsFound};
 
 use super::subject::Subject;
-use smil_model::{Attrs, Facts, Interval, Kind, Play, Time};
+use smil_interval::IntervalFacts;
+use smil_model::{Attrs, Interval, Kind, Play, Time};
 use smil_past::{Past, PastInterval, PlayFacts};
 
 /// The facts of an element at a moment, by its simple duration. It takes no memory.
-pub fn facts_of(subject: &Subject<'_>, simple: Time) -> Facts
+pub(crate) fn facts_of<'a>(subject: &Subject<'a>, simple: Time) -> IntervalFacts<'a>
     requires { IsFound subject.now }
     ensures { (e : AnyNode) (intervals : ℕ → Option AnyInterval)
         → node_at (elements subject.now.present.past.now.document.nodes) subject.now.present.who
@@ -30,7 +31,7 @@ pub fn facts_of(subject: &Subject<'_>, simple: Time) -> Facts
 {
     let played = subject.played;
     let makeup = subject.row.makeup();
-    Facts {
+    IntervalFacts {
         alive: subject.alive,
         deferred: played.shown_deferred.is_some(),
         play: present_play(subject),
@@ -39,11 +40,8 @@ pub fn facts_of(subject: &Subject<'_>, simple: Time) -> Facts
         passed: played.passed,
         end_list: makeup.end_list,
         restart: makeup.restart,
-        min: makeup.min,
-        max: makeup.max,
+        bounds: &makeup.bounds,
         simple,
-        count: makeup.count,
-        repeat_dur: makeup.repeat_dur,
     }
 }
 

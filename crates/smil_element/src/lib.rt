@@ -18,7 +18,6 @@ pub mod view;
 pub use comings::{DueChanges, comings_of};
 pub use endings::{Ending, ending_of, is_named, is_same_ending, walked_duration};
 pub use evaluation::{Evaluation, Room, evaluation_of};
-pub use facts::facts_of;
 pub use happening::{Change, DueChange, Parts, group_of, is_same_coming};
 pub use intervals::{Container, Containers, Intervals};
 pub use present::Present;

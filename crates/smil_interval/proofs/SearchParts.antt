@@ -1,6 +1,6 @@
 -- The parts of rising instance times that pass a test, as a binary search finds them.
-use Rattle.std.proofs.Common.{◌≡◌, refl, sym, ◌∙◌, subst, ℕ, ◌-◌, List, length, take, drop, ℤ, Bool, true, false, arith}
-use Rattle.std.specs.Prelude.{not, filter, int_le, Option, None}
+use Rattle.std.proofs.Common.{◌≡◌, refl, sym, ◌∙◌, ap, subst, ℕ, ◌-◌, List, length, take, drop, ℤ, Bool, true, false, arith}
+use Rattle.std.specs.Prelude.{not, filter, int_le, int_lt, Option, None}
 use Rattle.std.specs.List.Sorted.{IsPartitionedBy, IsPartitionPoint}
 use Rattle.std.proofs.lemmas.Slice.{between_to_end}
 use Rattle.smil_model.specs.declared.times.Time.{Time}
@@ -8,10 +8,10 @@ use Rattle.smil_model.specs.declared.times.Time.TheVariants.{At}
 use Rattle.smil_model.specs.declared.interval.Interval.{Interval}
 use Rattle.smil_model.specs.Times.{time_le}
 use Rattle.smil_model.specs.interval.Intervals.{counts_from, counts_after}
-use Rattle.smil_model.proofs.NumberOrders.{le_both}
+use Rattle.smil_model.proofs.NumberOrders.{le_both, not_le_is_lt}
 use Rattle.smil_model.specs.Rising.{IsRising as IsRisingBy}
 use Rattle.smil_interval.specs.Rising.{IsRising, IsRisingTimes}
-use Rattle.smil_interval.proofs.OrderedLists.{drop_ordered, drop_is_filter, filter_all, parted, not_before}
+use Rattle.smil_interval.proofs.OrderedLists.{drop_ordered, drop_is_filter, filter_all, parted, not_before, twice_not}
 use Rattle.smil_interval.proofs.TimeOrderTests.{from_up, counts_up}
 
 -- ---- a part of a slice
@@ -24,8 +24,12 @@ part_ordered {A} le k xs up = subst (λ (ys : List A). IsRisingBy le ys) (sym (b
 
 -- ---- the tests
 
-pub up_to_parted : (v : ℤ) (xs : List ℤ) → IsRising xs → IsPartitionedBy (λ b. int_le b v) xs
-up_to_parted v xs up = parted int_le (λ b. int_le b v) (λ x y q r. le_both x y v q r) xs up
+not_after : (v b : ℤ) → not (int_lt v b) ≡ int_le b v
+not_after v b = ap not (not_le_is_lt v b) ∙ sym (twice_not (int_le b v))
+
+pub up_to_parted : (v : ℤ) (xs : List ℤ) → IsRising xs → IsPartitionedBy (λ b. not (int_lt v b)) xs
+up_to_parted v xs up =
+    parted int_le (λ b. not (int_lt v b)) (λ x y q r. not_after v x ∙ le_both x y v q (sym (not_after v y) ∙ r)) xs up
 
 pub before_parted : (from : Time) (xs : List ℤ) → IsRising xs → IsPartitionedBy (λ b. not (time_le from (At b))) xs
 before_parted from xs up =

@@ -6,14 +6,17 @@ ghost use Rattle.smil_model.specs.interval.Intervals.{interval_of, coming_interv
 ghost use Rattle.smil_interval.specs.Rising.{IsRising, IsRisingTimes};
 
 pub mod end;
+mod facts;
 pub mod laws;
+mod passing;
 pub mod rising;
 pub mod search;
 mod steps;
 
 use end::interval_at;
+pub use facts::IntervalFacts;
 pub use search::{first_interval, next_interval};
-pub use smil_model::{EndList, Facts};
+pub use smil_model::EndList;
 use smil_model::{Interval, Time};
 use std::sync::ledger::Ledger;
 pub use steps::Steps;
@@ -26,7 +29,7 @@ pub use steps::Steps;
 pub fn evaluate<L: Ledger>(
     begins: &[i64],
     ends: &[Time],
-    facts: &Facts,
+    facts: &IntervalFacts<'_>,
     steps: &mut Steps<L>,
 ) -> Option<Interval>
     requires begins_rise { IsRising begins.now }
@@ -39,7 +42,8 @@ pub fn evaluate<L: Ledger>(
 }
 
 // The interval of an element.
-fn current(begins: &[i64], ends: &[Time], facts: &Facts) -> Option<Interval>
+#[inline(always)]
+fn current(begins: &[i64], ends: &[Time], facts: &IntervalFacts<'_>) -> Option<Interval>
     requires begins_rise { IsRising begins.now }
     requires ends_rise { IsRisingTimes ends.now }
     ensures { result ≡ interval_of facts.now begins.now ends.now }
@@ -57,7 +61,8 @@ fn current(begins: &[i64], ends: &[Time], facts: &Facts) -> Option<Interval>
 }
 
 // The first interval where none has finished since birth, and else the next one.
-fn coming(begins: &[i64], ends: &[Time], facts: &Facts) -> Option<Interval>
+#[inline(always)]
+fn coming(begins: &[i64], ends: &[Time], facts: &IntervalFacts<'_>) -> Option<Interval>
     requires begins_rise { IsRising begins.now }
     requires ends_rise { IsRisingTimes ends.now }
     ensures { result ≡ coming_interval facts.now begins.now ends.now facts.now.last }

@@ -1,23 +1,94 @@
-//! The parts of rising instance times that a search reads, found by binary search.
+//! The parts of rising instance times that a search reads.
 
 ghost use Rattle.std.specs.Prelude.{◌≡◌, filter, int_lt, Some};
 ghost use Rattle.smil_model.specs.interval.Intervals;
 ghost use Rattle.smil_model.specs.interval.Intervals.{counts_after, counts_from, is_from, after_end};
 ghost use Rattle.smil_interval.specs.Rising.{IsRising, IsRisingTimes};
 
+use super::passing::{Test, passing};
 use smil_model::{Interval, Time};
 
+// Whether a begin is after a number.
+#[derive(Clone, Copy)]
+struct LaterThan {
+    value: i64,
+}
+
+impl Test<i64> for LaterThan {
+    ghost use Rattle.std.specs.Prelude.{int_lt};
+
+    ghost passes = { λ test. int_lt test.value };
+
+    #[inline(always)]
+    fn passes(&self, begin: i64) -> bool {
+        self.value < begin
+    }
+}
+
+// Whether a begin stands from the end of an interval on, and strictly after it where the interval
+// has length 0.
+#[derive(Clone, Copy)]
+struct FromEnd {
+    interval: Interval,
+}
+
+impl Test<i64> for FromEnd {
+    ghost use Rattle.std.specs.Prelude.{Some};
+    ghost use Rattle.smil_model.specs.interval.Intervals.{is_from, after_end};
+
+    ghost passes = { λ test. is_from (Some (after_end test.interval.begin test.interval.«end»)) };
+
+    #[inline(always)]
+    fn passes(&self, begin: i64) -> bool {
+        match self.interval.end {
+            Time::At(end) => {
+                if self.interval.begin == end {
+                    begin > end
+                } else {
+                    begin >= end
+                }
+            }
+            _ => false,
+        }
+    }
+}
+
+// Whether an end instance counts for an interval that begins at `begin`: it is not before it, and
+// not equal to it where the last interval ended there.
+#[derive(Clone, Copy)]
+struct CountsFrom {
+    last: Option<Interval>,
+    begin: i64,
+}
+
+impl Test<Time> for CountsFrom {
+    ghost use Rattle.smil_model.specs.interval.Intervals.{counts_from};
+
+    ghost passes = { λ test. counts_from test.last test.begin };
+
+    #[inline(always)]
+    fn passes(&self, end: Time) -> bool {
+        match end {
+            Time::At(value) => {
+                value > self.begin || value == self.begin && !ended_at(self.last, end)
+            }
+            _ => true,
+        }
+    }
+}
+
 /// The begins after a number.
+#[inline(always)]
 pub fn after(begins: &[i64], value: i64) -> &[i64]
     requires { IsRising begins.now }
     ensures part { result.now ≡ filter (int_lt value) begins.now }
     ensures rising { IsRising result.now }
 {
-    let place = begins.partition_point(|begin| *begin <= value);
-    &begins[place..]
+    passing(begins, &LaterThan { value })
 }
 
 /// The begins that an excl has not let pass.
+#[inline(always)]
 pub fn not_passed(begins: &[i64], passed: Option<i64>) -> &[i64]
     requires { IsRising begins.now }
     ensures part { result.now ≡ filter (counts_after passed) begins.now }
@@ -31,55 +102,28 @@ pub fn not_passed(begins: &[i64], passed: Option<i64>) -> &[i64]
 
 /// The begins from the end of an interval on, and strictly after it where the interval has length
 /// 0.
+#[inline(always)]
 pub fn from_end(begins: &[i64], interval: Interval) -> &[i64]
     requires { IsRising begins.now }
     ensures part { result.now ≡ filter (is_from (Some (after_end interval.begin interval.end)))
         begins.now }
     ensures rising { IsRising result.now }
 {
-    let place = begins.partition_point(|begin| !follows(interval, *begin));
-    &begins[place..]
-}
-
-// Whether a begin stands from the end of an interval on, or strictly after it where the interval
-// has length 0.
-fn follows(interval: Interval, begin: i64) -> bool
-    ensures { result ≡ is_from (Some (after_end interval.begin interval.end)) begin }
-{
-    match interval.end {
-        Time::At(end) => {
-            if interval.begin == end {
-                begin > end
-            } else {
-                begin >= end
-            }
-        }
-        _ => false,
-    }
+    passing(begins, &FromEnd { interval })
 }
 
 /// The end instances that count for an interval that begins at `begin`.
+#[inline(always)]
 pub fn counting(ends: &[Time], last: Option<Interval>, begin: i64) -> &[Time]
     requires { IsRisingTimes ends.now }
     ensures part { result.now ≡ filter (counts_from last begin) ends.now }
     ensures rising { IsRisingTimes result.now }
 {
-    let place = ends.partition_point(|end| !counts(last, begin, *end));
-    &ends[place..]
-}
-
-// Whether an end instance counts for an interval that begins at `begin`: it is not before it, and
-// not equal to it where the last interval ended there.
-fn counts(last: Option<Interval>, begin: i64, end: Time) -> bool
-    ensures { result ≡ counts_from last begin end }
-{
-    match end {
-        Time::At(value) => value > begin || value == begin && !ended_at(last, end),
-        _ => true,
-    }
+    passing(ends, &CountsFrom { last, begin })
 }
 
 // Whether the last finished interval ended at this time.
+#[inline(always)]
 fn ended_at(last: Option<Interval>, time: Time) -> bool
     ensures { result ≡ Intervals.ended_at last time }
 {

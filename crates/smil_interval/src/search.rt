@@ -7,14 +7,16 @@ ghost use Rattle.smil_interval.specs.Rising.{IsRising, IsRisingTimes};
 ghost use Rattle.smil_interval.specs.Next.{interval_after};
 
 use super::end::interval_at;
+use super::facts::IntervalFacts;
 use super::rising::{from_end, not_passed};
-use smil_model::{Facts, Interval, Restart, Time};
+use smil_model::{Interval, Restart, Time};
 
 /// The first interval of an element, in milliseconds on its time parent's clock: the least begin is
 /// taken, and after each interval that is not accepted the least begin from its end on. None where
 /// no begin is left, or where no interval begins at one that is taken. SMIL 3.0, "Evaluation of
 /// begin and end time lists".
-pub fn first_interval(begins: &[i64], ends: &[Time], facts: &Facts) -> Option<Interval>
+#[inline(always)]
+pub fn first_interval(begins: &[i64], ends: &[Time], facts: &IntervalFacts<'_>) -> Option<Interval>
     requires begins_rise { IsRising begins.now }
     requires ends_rise { IsRisingTimes ends.now }
     ensures { result ≡ coming_interval facts.now begins.now ends.now None }
@@ -34,7 +36,8 @@ pub fn first_interval(begins: &[i64], ends: &[Time], facts: &Facts) -> Option<In
 /// begin from the last end on. None with restart `never`, where no begin is left, where no interval
 /// begins at that one, and where no interval has finished. SMIL 3.0, "Evaluation of begin and end
 /// time lists".
-pub fn next_interval(begins: &[i64], ends: &[Time], facts: &Facts) -> Option<Interval>
+#[inline(always)]
+pub fn next_interval(begins: &[i64], ends: &[Time], facts: &IntervalFacts<'_>) -> Option<Interval>
     requires begins_rise { IsRising begins.now }
     requires ends_rise { IsRisingTimes ends.now }
     ensures { result ≡ interval_after facts.now begins.now ends.now facts.now.last }
@@ -49,7 +52,13 @@ pub fn next_interval(begins: &[i64], ends: &[Time], facts: &Facts) -> Option<Int
 }
 
 // The interval that begins at the least begin from the end of an interval on.
-fn interval_from(begins: &[i64], ends: &[Time], facts: &Facts, last: Interval) -> Option<Interval>
+#[inline(always)]
+fn interval_from(
+    begins: &[i64],
+    ends: &[Time],
+    facts: &IntervalFacts<'_>,
+    last: Interval,
+) -> Option<Interval>
     requires begins_rise { IsRising begins.now }
     requires ends_rise { IsRisingTimes ends.now }
     ensures { result ≡ next_from (Intervals.interval_end facts.now begins.now ends.now)
@@ -64,6 +73,7 @@ fn interval_from(begins: &[i64], ends: &[Time], facts: &Facts, last: Interval) -
 
 // Whether a first interval is accepted: it ends after the parent's play start, or begins and ends
 // there.
+#[inline(always)]
 fn is_accepted(parent_start: i64, interval: Interval) -> bool
     ensures { result ≡ Intervals.is_accepted parent_start interval.begin interval.end }
 {

@@ -4,8 +4,9 @@ ghost use Rattle.std.specs.Prelude.{◌≡◌, ◌<◌};
 ghost use Rattle.smil_interval.specs.Rising.{IsRising, IsRisingTimes};
 
 use super::rising::{rises, times_rise};
-use smil_interval::{EndList, Facts, Steps, evaluate, first_interval, next_interval};
-use smil_model::{Bytes, Count, Interval, Play, Restart, Time};
+use smil_duration::Bounds;
+use smil_interval::{EndList, IntervalFacts, Steps, evaluate, first_interval, next_interval};
+use smil_model::{Bytes, Count, Facts, Interval, Play, Restart, Time};
 use smil_test_cases::{Fault, Words, number, put_interval, time};
 use std::alloc::Global;
 use std::marker::Brand;
@@ -24,11 +25,18 @@ pub fn interval(alloc: Global, words: &mut Words<'_>, out: &mut Bytes) -> Result
     if !rises(begins.as_slice()) || !times_rise(ends.as_slice()) {
         return Err(Fault::Refused);
     }
+    let bounds = Bounds::of_facts(&facts);
+    let facts = with_bounds(&facts, &bounds);
     tell(out, &facts, begins.as_slice(), ends.as_slice())
 }
 
 // The answers of the calls.
-fn tell(out: &mut Bytes, facts: &Facts, begins: &[i64], ends: &[Time]) -> Result<(), Fault>
+fn tell(
+    out: &mut Bytes,
+    facts: &IntervalFacts<'_>,
+    begins: &[i64],
+    ends: &[Time],
+) -> Result<(), Fault>
     requires begins_rise { IsRising begins.now }
     requires ends_rise { IsRisingTimes ends.now }
 {
@@ -45,7 +53,7 @@ fn tell(out: &mut Bytes, facts: &Facts, begins: &[i64], ends: &[Time]) -> Result
 // One evaluation, which is counted.
 fn evaluated<L: Ledger>(
     blank: Blank,
-    facts: &Facts,
+    facts: &IntervalFacts<'_>,
     begins: &[i64],
     ends: &[Time],
 ) -> Option<Interval>
@@ -57,6 +65,22 @@ fn evaluated<L: Ledger>(
 {
     let mut steps = Steps::<L>::new(blank);
     evaluate(begins, ends, facts, &mut steps)
+}
+
+// The facts of a search, with what limits a play.
+fn with_bounds<'a>(facts: &Facts, bounds: &'a Bounds) -> IntervalFacts<'a> {
+    IntervalFacts {
+        alive: facts.alive,
+        deferred: facts.deferred,
+        play: facts.play,
+        parent_start: facts.parent_start,
+        last: facts.last,
+        passed: facts.passed,
+        end_list: facts.end_list,
+        restart: facts.restart,
+        bounds,
+        simple: facts.simple,
+    }
 }
 
 // The facts of a search, field by field.

@@ -10,10 +10,10 @@ use Rattle.smil_element.proofs.comings.may_repeat.Goals as goal
 pub returns-then-repeats : goal.returns-then-repeats
 returns-then-repeats c = λ e at.
     and_told (is_some e.attrs.repeat_count || is_some e.attrs.repeat_dur) (stands (history_of c.args.subject.now.present.past.now) c.args.subject.now.present.who) c.repeats.result c.args.subject.now.clocks.own_stands
-    (c.repeats.ensures ∙ ap (λ (m : Makeup). is_some m.count || is_some m.repeat_dur) (c.makeup.ensures ∙ ap (λ (r : SyncRow). r.makeup) (c.requires.row_is e at)))
+    (c.repeats.ensures ∙ ap (λ (m : Makeup). is_some m.bounds.count || is_some m.bounds.repeat_dur) (c.makeup.ensures ∙ ap (λ (r : SyncRow). r.makeup) (c.requires.row_is e at)))
     c.requires.own_stands_is c.if-repeats.true
 
 pub returns-else-repeats : goal.returns-else-repeats
 returns-else-repeats c = λ e at.
     and_not (is_some e.attrs.repeat_count || is_some e.attrs.repeat_dur) (stands (history_of c.args.subject.now.present.past.now) c.args.subject.now.present.who) c.repeats.result
-    (c.repeats.ensures ∙ ap (λ (m : Makeup). is_some m.count || is_some m.repeat_dur) (c.makeup.ensures ∙ ap (λ (r : SyncRow). r.makeup) (c.requires.row_is e at))) c.if-repeats.false
+    (c.repeats.ensures ∙ ap (λ (m : Makeup). is_some m.bounds.count || is_some m.bounds.repeat_dur) (c.makeup.ensures ∙ ap (λ (r : SyncRow). r.makeup) (c.requires.row_is e at))) c.if-repeats.false

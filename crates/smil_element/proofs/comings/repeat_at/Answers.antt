@@ -4,7 +4,9 @@ use mir.Syntax.{w64}
 use mir.Val.{to_z, of_z}
 use Rattle.smil_model.specs.diary.Clocks.{run}
 use Rattle.smil_instances.proofs.SensitiveItems.{serial_is}
+use Rattle.smil_past.specs.declared.makeup.Makeup.{Makeup}
 use Rattle.smil_past.specs.Past.{history_of}
+use Rattle.smil_past.specs.Syncs.{SyncRow}
 use Rattle.smil_model.specs.Times.{IsNear, later_time}
 use Rattle.smil_model.specs.diary.Clocks.{iteration_start}
 use Rattle.smil_model.specs.happening.Keys.{coming_repeat_at}
@@ -27,7 +29,7 @@ returns-then-not-goes_on c = λ e at.
     let h = history_of c.args.subject.now.present.past.now in
     let over_is : to_z w64 (of_z w64 c.in-At.over) ≡ c.in-At.over = omega (arith, ints) in
     let start_is : to_z w64 (of_z w64 c.last_play-play.result.start) ≡ iteration_start h c.args.subject.now.present.who = omega (arith, ints, c.last_play-play.ensures.start) in
-    stops h c.args.subject.now.present.who e (serial_is c.args.subject.now.present.past.now.document.nodes c.args.subject.now.present.who e at) c.args.simple c.bounds_of-bounds.result c.last_play-play.result (c.bounds_of-bounds.ensures e at)
+    stops h c.args.subject.now.present.who e (serial_is c.args.subject.now.present.past.now.document.nodes c.args.subject.now.present.who e at) c.args.simple c.makeup.result.now.bounds c.last_play-play.result (ap (λ (m : Makeup). m.bounds) (c.makeup.ensures ∙ ap (λ (r : SyncRow). r.makeup) (c.requires.row_is e at)))
     c.last_play-play.ensures.first c.last_play-play.ensures.start c.last_play-play.ensures.iteration
     c.args.subject.now.present.moment c.args.place c.later.result c.goes_on.result (to_z w64 (of_z w64 c.in-At.over)) c.in-At.over c.in-At.is over_is c.goes_on.ensures c.if-not-goes_on.true
     ∙ ap (coming_repeat_at h c.args.subject.now.present.moment c.args.place e c.args.simple) (c.later.ensures ∙ ap (later_time c.args.simple) start_is)
@@ -45,7 +47,7 @@ returns c = λ e at.
     let over_is : to_z w64 (of_z w64 c.in-At.over) ≡ c.in-At.over = omega (arith, ints) in
     let start_is : to_z w64 (of_z w64 c.last_play-play.result.start) ≡ iteration_start h c.args.subject.now.present.who = omega (arith, ints, c.last_play-play.ensures.start) in
     let value_is : to_z w64 (of_z w64 c.moment_of.result) ≡ c.moment_of.result = omega (arith, ints) in
-    follows h c.args.subject.now.present.who e (serial_is past.document.nodes c.args.subject.now.present.who e at) c.args.simple c.bounds_of-bounds.result c.last_play-play.result (c.bounds_of-bounds.ensures e at)
+    follows h c.args.subject.now.present.who e (serial_is past.document.nodes c.args.subject.now.present.who e at) c.args.simple c.makeup.result.now.bounds c.last_play-play.result (ap (λ (m : Makeup). m.bounds) (c.makeup.ensures ∙ ap (λ (r : SyncRow). r.makeup) (c.requires.row_is e at)))
     c.last_play-play.ensures.first c.last_play-play.ensures.start c.last_play-play.ensures.iteration
     c.args.subject.now.present.moment c.args.place c.later.result c.goes_on.result (to_z w64 (of_z w64 c.in-At.over)) c.in-At.over (to_z w64 (of_z w64 c.moment_of.result)) c.in-At.is over_is c.goes_on.ensures c.if-not-goes_on.false
     (value_is ∙ c.moment_of.ensures ∙ ap (λ v. c.args.subject.now.present.moment +ℤ (v -ℤ run h c.args.subject.now.present.who c.args.subject.now.present.moment)) over_is)

@@ -1,4 +1,4 @@
-use Rattle.std.proofs.Common.{◌≡◌, ◌∙◌, sym, ap, subst, ℕ, ℤ, List, ◌++◌}
+use Rattle.std.proofs.Common.{◌≡◌, ◌∙◌, sym, ap, subst, ℕ, ℤ, List}
 use Rattle.std.specs.Prelude.{Option, int_le, flat_map}
 use Rattle.std.proofs.lemmas.Result.{on_ok_weaker}
 use Rattle.smil_model.specs.declared.interval.Interval.{Interval}
@@ -19,9 +19,8 @@ pub pour-requires-clause-rising : goal.pour-requires-clause-rising
 pour-requires-clause-rising g c =
     let h : History = history_of c.args.reading.now.subject.now.present.past.now in
     let found = element_of h.nodes c.args.reading.now.subject.now.present.who c.requires.element in
-    let items : c.extend_from_slice.new.self.items ≡ settled_begins h c.args.reading.now.subject.now.present.moment found.0 =
-    c.in_ok-extend_from_slice.ensures.items
-    ∙ ap (λ (xs : List ℤ). xs ++ c.begins.result.now) c.clear.ensures.items
+    let items : c.refill.new.times.items ≡ settled_begins h c.args.reading.now.subject.now.present.moment found.0 =
+    c.in_ok-refill.ensures
     ∙ c.begins.ensures.model h c.args.reading.now.subject.now.present.moment found.0 (record { rows = c.instances.ensures.rows; known = found.1 }) in
     subst (λ (xs : List ℤ). IsRising int_le xs) (sym items) (begins_rise h no_interval c.args.reading.now.subject.now.present.moment found.0)
 
@@ -29,14 +28,13 @@ pub returns : goal.returns
 returns g c = λ e here.
     let h : History = history_of c.args.reading.now.subject.now.present.past.now in
     let given : ℕ → Option Interval = g.J.Intervals.given c.args.reading.now.intervals.now in
-    let items : c.extend_from_slice.new.self.items ≡ settled_begins h c.args.reading.now.subject.now.present.moment e =
-    c.in_ok-extend_from_slice.ensures.items
-    ∙ ap (λ (xs : List ℤ). xs ++ c.begins.result.now) c.clear.ensures.items
+    let items : c.refill.new.times.items ≡ settled_begins h c.args.reading.now.subject.now.present.moment e =
+    c.in_ok-refill.ensures
     ∙ c.begins.ensures.model h c.args.reading.now.subject.now.present.moment e (record { rows = c.instances.ensures.rows; known = here }) in
     let syncs : c.side.result.now ≡ syncs_of h.nodes Begin e = c.side.ensures ∙ ap (syncs_on Begin) (c.requires.row_is e here) in
     let serial : c.args.reading.now.subject.now.present.who ≡ e.serial = sym (stands (elements h.nodes) c.args.reading.now.subject.now.present.who e here).serial in
     on_ok_weaker c.pour.result
-    (λ (is : c.pour.new.times.items ≡ with_times int_le number_of (flat_map (expected_by h given c.args.reading.now.subject.now.present.moment c.args.reading.now.subject.now.present.who) c.side.result.now) c.extend_from_slice.new.self.items).
+    (λ (is : c.pour.new.times.items ≡ with_times int_le number_of (flat_map (expected_by h given c.args.reading.now.subject.now.present.moment c.args.reading.now.subject.now.present.who) c.side.result.now) c.refill.new.times.items).
     is
     ∙ (λ i. with_times int_le number_of (flat_map (expected_by h given c.args.reading.now.subject.now.present.moment (serial i)) (syncs i)) (items i))
     ∙ begins_merged h c.args.reading.now.subject.now.present.moment e given)

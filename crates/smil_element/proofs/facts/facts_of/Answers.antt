@@ -4,7 +4,6 @@ use Rattle.std.proofs.lemmas.Int.{ints}
 use mir.Syntax.{w64}
 use mir.Val.{to_z, of_z}
 use Rattle.smil_model.specs.diary.Clocks.{parent_start}
-use Rattle.smil_model.specs.document.Defaults.{min_of}
 use Rattle.smil_past.specs.declared.makeup.Makeup.{Makeup}
 use Rattle.smil_past.specs.declared.plays.facts.PlayFacts.{PlayFacts}
 use Rattle.smil_instances.proofs.SensitiveItems.{serial_is}
@@ -21,7 +20,6 @@ returns c = λ e intervals at simple.
     let h = history_of past in
     let makeup = c.makeup-makeup.ensures ∙ ap (λ (r : SyncRow). r.makeup) (c.requires.row_is e at) in
     let start_is : to_z w64 (of_z w64 c.args.subject.now.parent_start) ≡ parent_start h who = omega (arith, ints, c.requires.start_is) in
-    let low_is : to_z w64 (of_z w64 c.makeup-makeup.result.now.min) ≡ min_of e.attrs = omega (arith, ints, ap (λ (m : Makeup). m.min) makeup) in
     facts_are h who c.args.subject.now.present.moment e (serial_is past.document.nodes who e at) intervals _ _ _ _ _ _ _ _ _ _ _ _ _
     c.requires.alive_is
     (c.is_some.ensures ∙ ap (λ (r : PlayFacts). is_some r.shown_deferred) c.requires.played_is ∙ deferred_is h who)
@@ -31,8 +29,8 @@ returns c = λ e intervals at simple.
     (ap (λ (r : PlayFacts). r.passed) c.requires.played_is)
     (ap (λ (m : Makeup). m.end_list) makeup)
     (ap (λ (m : Makeup). m.restart) makeup)
-    low_is
-    (ap (λ (m : Makeup). m.max) makeup)
+    (ap (λ (m : Makeup). m.bounds.min) makeup)
+    (ap (λ (m : Makeup). m.bounds.max) makeup)
     simple
-    (ap (λ (m : Makeup). m.count) makeup)
-    (ap (λ (m : Makeup). m.repeat_dur) makeup)
+    (ap (λ (m : Makeup). m.bounds.count) makeup)
+    (ap (λ (m : Makeup). m.bounds.repeat_dur) makeup)

@@ -1,7 +1,8 @@
-use Rattle.std.proofs.Common.{◌≡◌, sym, ◌∙◌, subst, ◌≤◌, length, List, ◌∷◌, ℤ, false, arith, rules, w64}
+use Rattle.std.proofs.Common.{◌≡◌, sym, ◌∙◌, ap, subst, ◌≤◌, length, List, ◌∷◌, ℤ, false, arith, rules, w64}
 use Rattle.std.specs.Prelude.{int_le, Some, option_map}
 use Rattle.std.proofs.lemmas.Int.{to_z-of_z}
 use mir.Val.{SFits}
+use Rattle.smil_model.specs.declared.interval.Facts.{Facts}
 use Rattle.smil_model.specs.interval.Intervals.{is_from, after_end, is_accepted, interval_end}
 use Rattle.smil_interval.specs.Rising.{IsRising}
 use Rattle.smil_interval.specs.Next.{interval_to}
@@ -27,10 +28,12 @@ search-preserved c =
     let b = c.in-Some.begin.now in
     let i = c.in_ok-interval.interval in
     let fits : SFits w64 b = search rules in
-    let start_fits : SFits w64 facts.parent_start = search rules in
+    let start_fits : SFits w64 c.facts.inside.parent_start = search rules in
     let end_of = interval_end facts c.args.begins.now c.args.ends.now in
     let is : Some i ≡ option_map (interval_to b) (end_of b) = simp to_z-of_z at c.in_ok-interval.ensures in
-    let bad : is_accepted facts.parent_start i.begin i.«end» ≡ false = sym (simp to_z-of_z at c.if-is_accepted.ensures) in
+    let bad : is_accepted facts.parent_start i.begin i.«end» ≡ false =
+    ap (λ (f : Facts). is_accepted f.parent_start i.begin i.«end») (sym c.facts.view_is)
+    ∙ sym (simp to_z-of_z at c.if-is_accepted.ensures) in
     record {
       rising = c.from_end-rest.ensures.rising;
       same =
