@@ -11,6 +11,7 @@ use Rattle.smil_model.specs.declared.times.Time.TheVariants.{Unresolved}
 use Rattle.smil_model.specs.declared.interval.ChildEnd.{ChildEnd}
 use Rattle.smil_model.specs.interval.Durations.{named_end}
 use Rattle.smil_endsync.specs.declared.ends.EndSummary.{EndSummary}
+use Rattle.smil_endsync.specs.declared.ends.Summing.{Summing}
 use Rattle.smil_endsync.specs.Ends.{one_end, set_ends, AreSummed}
 
 abbrev is_named : ChildEnd → Bool
@@ -41,25 +42,25 @@ pub set_kept : (cs : List ChildEnd) (k : ℕ) (first latest : Option Time) (own 
 set_kept cs k first latest own is lt =
     ap (λ (x : ChildEnd). set cs k (record { named = x.named; first = first; latest = latest })) is ∙ set_is cs k first latest own lt
 
-sums_set : (cs : List ChildEnd) (k : ℕ) (end' : ChildEnd) → set (map one_end cs) k (one_end end') ≡ map one_end (set cs k end')
-sums_set [] k end' = refl
-sums_set (c ∷ cs) zero end' = refl
-sums_set (c ∷ cs) (suc k) end' = ap (λ rest. one_end c ∷ rest) (sums_set cs k end')
+sums_set : (rule : Summing) (cs : List ChildEnd) (k : ℕ) (end' : ChildEnd) → set (map (one_end rule) cs) k (one_end rule end') ≡ map (one_end rule) (set cs k end')
+sums_set rule [] k end' = refl
+sums_set rule (c ∷ cs) zero end' = refl
+sums_set rule (c ∷ cs) (suc k) end' = ap (λ rest. one_end rule c ∷ rest) (sums_set rule cs k end')
 
 -- where the children are summed there are as many summaries
-pub long_enough : (cs : List ChildEnd) (summaries : Option (List EndSummary)) (k : ℕ) → IfSome summaries (λ (all : List EndSummary). all ≡ map one_end cs) → k < length cs → IfSome summaries (λ (all : List EndSummary). k < length all)
-long_enough cs None k own lt = tt
-long_enough cs (Some all) k own lt = omega (arith, lt, ap (λ (xs : List EndSummary). length xs) own, length-map cs one_end)
+pub long_enough : (rule : Summing) (cs : List ChildEnd) (summaries : Option (List EndSummary)) (k : ℕ) → IfSome summaries (λ (all : List EndSummary). all ≡ map (one_end rule) cs) → k < length cs → IfSome summaries (λ (all : List EndSummary). k < length all)
+long_enough rule cs None k own lt = tt
+long_enough rule cs (Some all) k own lt = omega (arith, lt, ap (λ (xs : List EndSummary). length xs) own, length-map cs (one_end rule))
 
 -- the summaries have that of the child where they are kept
-sums_next : (cs : List ChildEnd) (old : Option (List EndSummary)) (k : ℕ) (end' : ChildEnd) → IfSome old (λ (all : List EndSummary). all ≡ map one_end cs) → IfSome (option_map (λ (all : List EndSummary). set all k (one_end end')) old) (λ (all : List EndSummary). all ≡ map one_end (set cs k end'))
-sums_next cs None k end' own = tt
-sums_next cs (Some all) k end' own = ap (λ xs. set xs k (one_end end')) own ∙ sums_set cs k end'
+sums_next : (rule : Summing) (cs : List ChildEnd) (old : Option (List EndSummary)) (k : ℕ) (end' : ChildEnd) → IfSome old (λ (all : List EndSummary). all ≡ map (one_end rule) cs) → IfSome (option_map (λ (all : List EndSummary). set all k (one_end rule end')) old) (λ (all : List EndSummary). all ≡ map (one_end rule) (set cs k end'))
+sums_next rule cs None k end' own = tt
+sums_next rule cs (Some all) k end' own = ap (λ xs. set xs k (one_end rule end')) own ∙ sums_set rule cs k end'
 
 -- after the ends of a child are put
-pub summed_next : (children : List ChildEnd) (named : Option ℕ) (old : Option (List EndSummary)) (child : ℕ) (first latest : Option Time) (own : ChildEnd) → AreSummed children named old → own ≡ get_or children child own → child < length children → AreSummed (set children child (record { named = own.named; first = first; latest = latest })) named (option_map (λ (all : List EndSummary). set all child (one_end (record { named = own.named; first = first; latest = latest }))) old)
-summed_next children named old child first latest own was is within = record {
-  own = sums_next children old child (record { named = own.named; first = first; latest = latest }) was.own;
+pub summed_next : (rule : Summing) (children : List ChildEnd) (named : Option ℕ) (old : Option (List EndSummary)) (child : ℕ) (first latest : Option Time) (own : ChildEnd) → AreSummed children named rule old → own ≡ get_or children child own → child < length children → AreSummed (set children child (record { named = own.named; first = first; latest = latest })) named rule (option_map (λ (all : List EndSummary). set all child (one_end rule (record { named = own.named; first = first; latest = latest }))) old)
+summed_next rule children named old child first latest own was is within = record {
+  own = sums_next rule children old child (record { named = own.named; first = first; latest = latest }) was.own;
   named_is =
       was.named_is
       ∙ named_stays children child first latest

@@ -1,61 +1,97 @@
 //! The ends of the time children of one container, kept under a change of one child.
 
-ghost use Rattle.std.specs.Prelude.{◌≡◌, ◌↔◌, ◌<◌, ◌≤◌, List, Some, IfOk, IfSome, IsTrue, length, find, map, option_map, slice_get, slice_set};
+ghost use Rattle.std.specs.Prelude.{◌≡◌, ◌↔◌, ◌<◌, ◌≤◌, List, Some, IfOk, IfSome, IsTrue, length, find, map, option_map, slice_get, slice_set, unwrap_or};
 ghost use Rattle.std.specs.List.{position};
 ghost use Rattle.smil_model.specs.Tournaments.{IsSum, most_items};
 ghost use Rattle.smil_model.specs.declared.interval.ChildEnd.{ChildEnd as AnyEnd};
 ghost use Rattle.smil_model.specs.interval.Durations;
 ghost use Rattle.smil_model.specs.interval.Durations.{container_duration};
-ghost use Rattle.smil_endsync.specs.Ends.{both_ends, no_ends, one_end, set_ends};
+ghost use Rattle.smil_endsync.specs.Ends.{both_ends, greatest_of, greatest_or, least_or, one_end, set_ends};
+ghost use Rattle.smil_endsync.specs.declared.ends.EndSummary.TheVariants.{NoEnd};
+ghost use Rattle.smil_endsync.specs.declared.ends.Summing.TheVariants.{Last};
 
-use super::{all_end, first_end, greatest_known, last_end, seq_end, since};
+use super::{all_end, first_end, last_end, seq_end, since};
 use smil_model::{
     ChildEnd, Contender, Duplicate, Endsync, Kind, Time, Tournament, greatest, least,
 };
 use std::alloc::{AllocError, Global};
 use std::marker::Model;
 
-/// What the ends of children side by side come to.
-#[derive(Clone, Copy)]
-pub struct EndSummary {
-    /// The least of the first ends, none counting as unresolved.
-    pub first: Time,
+/// By which rule the ends of children are summed, as the value of `endsync` asks.
+#[derive(Clone, Copy, PartialEq, Eq)]
+pub enum Summing {
     /// The greatest of the latest ends, where a child has one.
-    pub latest: Option<Time>,
-    /// The greatest of the latest ends, none counting as unresolved, where there is a child.
-    pub all: Option<Time>,
+    Last,
+    /// The least of the first ends, none counting as unresolved.
+    First,
+    /// The greatest of the latest ends, none counting as unresolved.
+    All,
+}
+
+/// What the ends of children side by side come to.
+#[derive(Clone, Copy, PartialEq, Eq)]
+pub enum EndSummary {
+    /// No end.
+    NoEnd,
+    /// The least of ends.
+    Least(Time),
+    /// The greatest of ends.
+    Greatest(Time),
+}
+
+impl EndSummary {
+    // The least of the ends where that is what they come to, else another time.
+    fn least_or(self, other: Time) -> Time
+        ensures { result ≡ least_or self other }
+    {
+        match self {
+            EndSummary::Least(end) => end,
+            _ => other,
+        }
+    }
+
+    // The greatest of the ends where that is what they come to, else another time.
+    fn greatest_or(self, other: Time) -> Time
+        ensures { result ≡ greatest_or self other }
+    {
+        match self {
+            EndSummary::Greatest(end) => end,
+            _ => other,
+        }
+    }
 }
 
 impl Contender for EndSummary {
-    ghost use Rattle.smil_endsync.specs.Ends.{both_ends, no_ends};
+    ghost use Rattle.smil_endsync.specs.Ends.{both_ends};
+    ghost use Rattle.smil_endsync.specs.declared.ends.EndSummary.TheVariants.{NoEnd};
 
-    ghost none = { no_ends };
+    ghost none = { NoEnd };
 
     ghost both = { both_ends };
 
     // What no children come to.
     fn none() -> EndSummary {
-        EndSummary {
-            first: Time::Unresolved,
-            latest: None,
-            all: None,
-        }
+        EndSummary::NoEnd
     }
 
-    // What two groups of children come to, one behind the other.
+    // What two groups of children come to, one behind the other. Where one is a least and the other
+    // a greatest of ends, which are never summed together, it is the latter.
     fn with(self, behind: EndSummary) -> EndSummary {
-        EndSummary {
-            first: least(self.first, behind.first),
-            latest: greatest_known(self.latest, behind.latest),
-            all: greatest_known(self.all, behind.all),
+        match (self, behind) {
+            (EndSummary::Greatest(one), EndSummary::Greatest(other)) => {
+                EndSummary::Greatest(greatest(one, other))
+            }
+            (EndSummary::Least(one), EndSummary::Least(other)) => {
+                EndSummary::Least(least(one, other))
+            }
+            (EndSummary::NoEnd, _) | (EndSummary::Least(_), EndSummary::Greatest(_)) => behind,
+            _ => self,
         }
     }
 
     // Whether two groups of children come to the same.
     fn is_same(self, other: EndSummary) -> bool {
-        is_same_time(self.first, other.first)
-            && is_same_end(self.latest, other.latest)
-            && is_same_end(self.all, other.all)
+        self == other
     }
 }
 
@@ -66,7 +102,9 @@ pub struct Ends {
     children: Vec<ChildEnd>,
     /// Which child the container's `endsync` names.
     named: Option<usize>,
-    /// What each child comes to, where that is summed.
+    /// By which rule the ends are summed, if they are.
+    summing: Summing,
+    /// What each child comes to by that rule, where that is summed.
     summaries: Option<Tournament<EndSummary>>,
 }
 
@@ -79,13 +117,14 @@ impl Model for Ends {
 
     ghost view = { λ a. a.children.items };
 
-    ghost invariant = { λ a. AreSummed a.children.items a.named a.summaries };
+    ghost invariant = { λ a. AreSummed a.children.items a.named a.summing a.summaries };
 }
 
 impl Duplicate for Ends {
     fn copy(&self) -> Result<Self, AllocError> {
         Ok(Ends {
             named: self.named,
+            summing: self.summing,
             summaries: copy_of(&self.summaries)?,
             children: self.children.clone()?,
         })
@@ -94,15 +133,20 @@ impl Duplicate for Ends {
 
 impl Ends {
     /// These ends, of at most 2^32 children. It takes a step for each child, and where they are to
-    /// be summed, as a duration wants that follows from all of them, memory for a summary of each
-    /// and of neighbours; refused where memory runs out.
-    pub fn of(alloc: Global, children: Vec<ChildEnd>, is_summed: bool) -> Result<Ends, AllocError>
+    /// be summed by a rule, as a duration wants that follows from all of them, memory for a summary
+    /// of each and of neighbours; refused where memory runs out.
+    pub fn of(
+        alloc: Global,
+        children: Vec<ChildEnd>,
+        summing: Option<Summing>,
+    ) -> Result<Ends, AllocError>
         requires { length children.items ≤ most_items }
         ensures { IfOk result (λ ends. ends ≡ children.items) }
     {
         Ok(Ends {
             named: named_place(&children),
-            summaries: summed(alloc, &children, is_summed)?,
+            summing: summing.unwrap_or(Summing::Last),
+            summaries: summed(alloc, &children, summing)?,
             children,
         })
     }
@@ -128,12 +172,13 @@ impl Ends {
             latest,
         };
         self.children[child] = end;
-        put_summary(&mut self.summaries, child, one(end));
+        put_summary(&mut self.summaries, child, one(self.summing, end));
     }
 
     /// The implicit duration of an active container with these time children, in milliseconds, as
     /// the function `implicit` gives it. It takes a fixed number of steps for a seq, by a named
-    /// child and where the ends are summed, else one for each child; and no memory.
+    /// child and where the ends are summed as `endsync` asks, else one for each child; and no
+    /// memory.
     pub fn implicit(&self, kind: Kind, endsync: &Endsync, start: i64) -> Time
         ensures { result ≡ container_duration kind endsync.now start self.now }
     {
@@ -168,14 +213,15 @@ impl Ends {
         }
     }
 
-    // What all children come to, where they are summed.
-    fn top(&self) -> Option<EndSummary>
-        ensures { (sum : List EndSummary → EndSummary) → IsSum no_ends both_ends sum
-            → IfSome result (λ all. all ≡ sum (map one_end self.now)) }
+    // What all children come to by a rule, where they are summed by it.
+    fn top(&self, summing: Summing) -> Option<EndSummary>
+        ensures { (sum : List EndSummary → EndSummary) → IsSum NoEnd both_ends sum
+            → IfSome result (λ all. all ≡ sum (map (one_end summing) self.now)) }
     {
-        match &self.summaries {
-            Some(summaries) => Some(summaries.top()),
-            None => None,
+        if is_same_rule(self.summing, summing) {
+            top_of(&self.summaries)
+        } else {
+            None
         }
     }
 
@@ -184,8 +230,8 @@ impl Ends {
     fn last_end(&self, start: i64) -> Time
         ensures { result ≡ Durations.last_end start self.now }
     {
-        match self.top() {
-            Some(all) => all.latest.unwrap_or(Time::At(start)),
+        match self.top(Summing::Last) {
+            Some(all) => all.greatest_or(Time::At(start)),
             None => last_end(start, &self.children),
         }
     }
@@ -194,8 +240,8 @@ impl Ends {
     fn first_end(&self) -> Time
         ensures { result ≡ Durations.first_end self.now }
     {
-        match self.top() {
-            Some(all) => all.first,
+        match self.top(Summing::First) {
+            Some(all) => all.least_or(Time::Unresolved),
             None => first_end(&self.children),
         }
     }
@@ -204,8 +250,8 @@ impl Ends {
     fn all_end(&self) -> Time
         ensures { result ≡ Durations.all_end self.now }
     {
-        match self.top() {
-            Some(all) => all.all.unwrap_or(Time::Unresolved),
+        match self.top(Summing::All) {
+            Some(all) => all.greatest_or(Time::Unresolved),
             None => all_end(&self.children),
         }
     }
@@ -222,18 +268,22 @@ impl Ends {
     }
 }
 
-// Whether two times are the same.
-fn is_same_time(one: Time, other: Time) -> bool
+// Whether two rules are the same.
+fn is_same_rule(one: Summing, other: Summing) -> bool
     ensures { IsTrue result ↔ (one ≡ other) }
 {
     one == other
 }
 
-// Whether two times, of which either may be absent, are the same.
-fn is_same_end(one: Option<Time>, other: Option<Time>) -> bool
-    ensures { IsTrue result ↔ (one ≡ other) }
+// What all children come to, where they are summed.
+fn top_of(summaries: &Option<Tournament<EndSummary>>) -> Option<EndSummary>
+    ensures { (sum : List EndSummary → EndSummary) → IsSum NoEnd both_ends sum
+        → result ≡ option_map sum summaries.now }
 {
-    one == other
+    match summaries {
+        Some(summaries) => Some(summaries.top()),
+        None => None,
+    }
 }
 
 // The place of the named child.
@@ -243,30 +293,41 @@ fn named_place(children: &[ChildEnd]) -> Option<usize>
     children.iter().position(|child| child.named)
 }
 
-// What one child comes to.
-fn one(end: ChildEnd) -> EndSummary
-    ensures { result ≡ one_end end }
+// What one child comes to by a rule.
+fn one(summing: Summing, end: ChildEnd) -> EndSummary
+    ensures { result ≡ one_end summing end }
 {
-    EndSummary {
-        first: end.first.unwrap_or(Time::Unresolved),
-        latest: end.latest,
-        all: Some(end.latest.unwrap_or(Time::Unresolved)),
+    match summing {
+        Summing::First => EndSummary::Least(end.first.unwrap_or(Time::Unresolved)),
+        Summing::All => EndSummary::Greatest(end.latest.unwrap_or(Time::Unresolved)),
+        Summing::Last => greatest_of(end.latest),
     }
 }
 
-// What each child comes to, under a tournament, where that is to be summed.
+// A greatest end, if there is one.
+fn greatest_of(end: Option<Time>) -> EndSummary
+    ensures { result ≡ greatest_of end }
+{
+    match end {
+        Some(end) => EndSummary::Greatest(end),
+        None => EndSummary::NoEnd,
+    }
+}
+
+// What each child comes to by a rule, under a tournament, where that is to be summed.
 fn summed(
     alloc: Global,
     children: &[ChildEnd],
-    is_summed: bool,
+    summing: Option<Summing>,
 ) -> Result<Option<Tournament<EndSummary>>, AllocError>
     requires { length children.now ≤ most_items }
-    ensures { IfOk result (λ made. IfSome made (λ all. all ≡ map one_end children.now)) }
+    ensures { IfOk result (λ made. IfSome made (λ all. all
+        ≡ map (one_end (unwrap_or summing Last)) children.now)) }
 {
-    if !is_summed {
+    let Some(summing) = summing else {
         return Ok(None);
-    }
-    let summaries = summaries(alloc, children)?;
+    };
+    let summaries = summaries(alloc, summing, children)?;
     Ok(Some(Tournament::of(alloc, summaries.as_slice())?))
 }
 
@@ -292,13 +353,17 @@ fn put_summary(summaries: &mut Option<Tournament<EndSummary>>, child: usize, sum
     }
 }
 
-// What each child comes to.
-fn summaries(alloc: Global, children: &[ChildEnd]) -> Result<Vec<EndSummary>, AllocError>
-    ensures { IfOk result (λ summaries. summaries.items ≡ map one_end children.now) }
+// What each child comes to by a rule.
+fn summaries(
+    alloc: Global,
+    summing: Summing,
+    children: &[ChildEnd],
+) -> Result<Vec<EndSummary>, AllocError>
+    ensures { IfOk result (λ summaries. summaries.items ≡ map (one_end summing) children.now) }
 {
     let mut summaries = Vec::with_capacity(alloc, children.len())?;
     for child in children {
-        summaries.push(one(*child))?;
+        summaries.push(one(summing, *child))?;
     }
     Ok(summaries)
 }

@@ -11,7 +11,7 @@ ghost use Rattle.smil_endsync.specs.Known;
 
 mod ends;
 
-pub use ends::Ends;
+pub use ends::{Ends, Summing};
 pub use smil_model::ChildEnd;
 use smil_model::{Attrs, Endsync, Kind, Time, capped, greatest, least};
 

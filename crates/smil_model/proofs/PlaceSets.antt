@@ -195,6 +195,10 @@ pub no_places : (words : List ℕ) → ((place : ℕ) → is_in words place ≡ 
 unfolding places_of
 no_places words none = none_from (is_in words) 0 (64 * length words) (λ p from before. none p)
 
+pub none_in_empty : (words : List ℕ) → words ≡ [] → (place : ℕ) → is_in words place ≡ false
+none_in_empty words is place =
+    none_in_word words place (ap (λ ws. slice_index ws (place / 64)) is ∙ get_or_past [] (place / 64) 0 (omega arith))
+
 pub empty_places : places_of [] ≡ []
 unfolding places_of
 empty_places = refl
@@ -224,13 +228,10 @@ none_before words first word before empty p less = by_case (cases_lt (p / 64) fi
     by_case (inl earlier) = before p earlier
     by_case (inr from) = none_in_word words p (empty (p / 64) from less)
 
--- there are no places where no word has one
-pub none_at_all : (words : List ℕ) (word : ℕ) → word ≡ length words → ((p : ℕ) → p / 64 < word → is_in words p ≡ false) → places_of words ≡ []
-none_at_all words word is before = no_places words by_place
+-- no place is left where the first word with one is behind the last
+pub none_left : (words : List ℕ) (first end' : ℕ) → end' ≤ first → ((p : ℕ) → p / 64 < first → is_in words p ≡ false) → ((p : ℕ) → end' ≤ p / 64 → is_in words p ≡ false) → (p : ℕ) → is_in words p ≡ false
+none_left words first end' reached before behind p = by_case (cases_lt (p / 64) first)
   where
-    by_place : (p : ℕ) → is_in words p ≡ false
-    by_place p = by_case (cases_lt (p / 64) word)
-      where
-        by_case : (p / 64 < word) ⊎ (word ≤ p / 64) → is_in words p ≡ false
-        by_case (inl inside) = before p inside
-        by_case (inr past) = none_in_word words p (get_or_past words (p / 64) 0 (omega (arith, past, is)))
+    by_case : (p / 64 < first) ⊎ (first ≤ p / 64) → is_in words p ≡ false
+    by_case (inl inside) = before p inside
+    by_case (inr past) = behind p (omega (arith, past, reached))

@@ -16,6 +16,8 @@ pub struct PlaceSet {
     words: Vec<u64>,
     /// No place stands in a word before this one.
     first: usize,
+    /// No place stands in this word or one behind it.
+    end: usize,
 }
 
 impl Model for PlaceSet {
@@ -26,7 +28,7 @@ impl Model for PlaceSet {
 
     ghost view = { λ a. places_of a.words.items };
 
-    ghost invariant = { λ a. ArePlaces a.words.items a.first };
+    ghost invariant = { λ a. ArePlaces a.words.items a.first a.end };
 }
 
 impl PlaceSet {
@@ -36,7 +38,8 @@ impl PlaceSet {
     {
         PlaceSet {
             words: Vec::new(alloc),
-            first: 0,
+            first: usize::MAX,
+            end: 0,
         }
     }
 
@@ -44,12 +47,18 @@ impl PlaceSet {
     pub fn clear(&mut self)
         ensures { self.new ≡ [] }
     {
+        let is_empty = self.end <= self.first;
+        self.first = usize::MAX;
+        self.end = 0;
+        if is_empty {
+            return;
+        }
         self.words.clear();
-        self.first = 0;
     }
 
     /// Puts a place in; one that is there already stays, once. Where memory runs out the set is as
     /// before.
+    #[inline(always)]
     pub fn put(&mut self, place: usize) -> Result<(), AllocError>
         ensures ok { OnOk result ((p : ℕ) → has self.new p ≡ ((p == place) || has self.old p)) }
         ensures err { OnErr result (self.new ≡ self.old) }
@@ -57,6 +66,7 @@ impl PlaceSet {
         reach(&mut self.words, place / 64)?;
         set_bit(&mut self.words, place);
         self.first = self.first.min(place / 64);
+        self.end = self.end.max(place / 64 + 1);
         Ok(())
     }
 
@@ -67,9 +77,9 @@ impl PlaceSet {
             (λ place. self.old ≡ place ∷ self.new) }
         ensures order { IsStrictlyIncreasing self.old }
     {
-        let word = first_word(&self.words, self.first);
+        let word = first_word(&self.words, self.first, self.end);
         self.first = word;
-        if word == self.words.len() {
+        if word == self.end {
             return None;
         }
         Some(take_lowest(&mut self.words, word))
@@ -77,20 +87,40 @@ impl PlaceSet {
 }
 
 // Makes room for the places of a word.
+#[inline(always)]
 fn reach(words: &mut Vec<u64>, word: usize) -> Result<(), AllocError>
     requires { word < 2 ^ 58 }
     ensures within { OnOk result (word < vec_len words.new) }
+    ensures longer { vec_len words.old ≤ vec_len words.new }
     ensures few { vec_len words.old ≤ 2 ^ 58 → vec_len words.new ≤ 2 ^ 58 }
     ensures same { (p : ℕ) → is_in words.new.items p ≡ is_in words.old.items p }
     ensures err { OnErr result (words.new.items ≡ words.old.items) }
 {
     if words.len() <= word {
-        words.resize(word + 1, 0)?;
+        grow(words, word)
+    } else {
+        Ok(())
     }
+}
+
+// Adds words up to one behind the last: a call of its own, so that a put without it stands where it
+// is made.
+#[inline(never)]
+fn grow(words: &mut Vec<u64>, word: usize) -> Result<(), AllocError>
+    requires behind { vec_len words.old ≤ word }
+    requires few { word < 2 ^ 58 }
+    ensures within { OnOk result (word < vec_len words.new) }
+    ensures longer { vec_len words.old ≤ vec_len words.new }
+    ensures few { vec_len words.old ≤ 2 ^ 58 → vec_len words.new ≤ 2 ^ 58 }
+    ensures same { (p : ℕ) → is_in words.new.items p ≡ is_in words.old.items p }
+    ensures err { OnErr result (words.new.items ≡ words.old.items) }
+{
+    words.resize(word + 1, 0)?;
     Ok(())
 }
 
 // Puts a place in, in a word that is there.
+#[inline(always)]
 fn set_bit(words: &mut [u64], place: usize)
     requires { place / 64 < length words.old }
     ensures { (p : ℕ) → is_in words.new p ≡ ((p == place) || is_in words.old p) }
@@ -98,15 +128,16 @@ fn set_bit(words: &mut [u64], place: usize)
     words[place / 64] |= 1 << ((place % 64) as u32);
 }
 
-// The first word with a place, from one on before which there is none; past the last one where
-// there is none.
-fn first_word(words: &[u64], from: usize) -> usize
-    ensures within { result ≤ length words.now }
+// The first word with a place, from one on before which there is none; `end`, behind which there is
+// none, where there is none before it.
+fn first_word(words: &[u64], from: usize, end: usize) -> usize
+    requires { end ≤ length words.now }
+    ensures within { result ≤ end }
     ensures below { (i : ℕ) → from ≤ i → i < result → slice_index words.now i ≡ 0 }
-    ensures found { result < length words.now → slice_index words.now result ≢ 0 }
+    ensures found { result < end → slice_index words.now result ≢ 0 }
 {
-    let mut word = from.min(words.len());
-    while word < words.len() && words[word] == 0 {
+    let mut word = from.min(end);
+    while word < end && words[word] == 0 {
         word += 1;
     }
     word

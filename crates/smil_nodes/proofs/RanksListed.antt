@@ -1,5 +1,5 @@
 -- The ranks of elements are listed one after another.
-use Rattle.std.proofs.Common.{◌≡◌, refl, sym, ◌∙◌, ap, subst, ℕ, suc, ◌+◌, ◌<◌, ◌≤◌, List, [], ◌∷◌, length, take, get_or, Option, Some, None, Bool, true, false, arith, inl, inr}
+use Rattle.std.proofs.Common.{◌≡◌, refl, sym, ◌∙◌, ap, subst, ℕ, suc, ◌+◌, ◌<◌, ◌≤◌, List, [], ◌∷◌, length, take, drop, get_or, Option, Some, None, Bool, true, false, arith, inl, inr}
 use Rattle.std.specs.Prelude.{◌⊎◌, ◌==◌, ◌||◌, ◌&&◌, cond, filter, is_some, option_map, slice_get}
 use Rattle.std.specs.List.{AllByRecursion, list_any, position}
 use Rattle.std.proofs.lemmas.Bool.{and_from, and_parts, or_cases, or_left, or_right, eqb-true, eq-eqb}
@@ -10,7 +10,7 @@ use Rattle.std.proofs.lemmas.List.Sorted.{list_any-IsPermutation}
 use Rattle.smil_model.specs.declared.diary.Entry.{Entry}
 use Rattle.smil_model.specs.declared.diary.LogEntry.{LogEntry}
 use Rattle.smil_model.specs.declared.document.Node.{Node}
-use Rattle.smil_model.specs.document.Document.{elements, is_element, is_within, node_at, serials}
+use Rattle.smil_model.specs.document.Document.{descendants, elements, is_below, is_element, is_within, node_at, serials}
 use Rattle.smil_model.specs.document.Closure.{has}
 use Rattle.smil_model.specs.document.Valid.{IsDistinct}
 use Rattle.smil_model.specs.document.Defaults.{items_or}
@@ -24,7 +24,7 @@ use Rattle.smil_graph.specs.Graph.{IsGraphOrder, readers_of}
 use Rattle.smil_graph.proofs.DefinitionsByPlace.{all_any}
 use Rattle.smil_graph.proofs.GraphAnswers.{element_at, only_element}
 use Rattle.smil_graph.proofs.LinksAreDependencies.{any_filter, any_there, there_any_item}
-use Rattle.smil_stretch.proofs.NodesAbove.{known_element}
+use Rattle.smil_stretch.proofs.NodesAbove.{known_element, lineage_before}
 use Rattle.smil_past.proofs.KnownNodes.{known_node}
 use Rattle.smil_nodes.specs.Noted.{AreNoted, is_self_or_reader}
 use Rattle.smil_model.proofs.FirstPlaces.{position_cons}
@@ -251,23 +251,78 @@ module _ (nodes : List Node) (distinct : IsDistinct nodes) (x s : ℕ) where
       by_case (inl w) = any_known of_node nodes s (known_node nodes s known_s) (here w)
       by_case (inr r) = reader (any_there (λ (b : Node). is_element b && of_reader b) nodes (sym (any_filter is_element of_reader nodes) ∙ r))
 
-  -- what a node's part of the document has listed is what it touches
-  part_is : is_some (node_at (elements nodes) s) ≡ true → list_any (λ (n : Node). is_self_or_reader nodes n.serial s) (filter (λ (n : Node). is_within nodes x n.serial) nodes) ≡ is_touched nodes x s
-  part_is known_s =
-      any_filter (λ (n : Node). is_within nodes x n.serial) (λ (n : Node). is_self_or_reader nodes n.serial s) nodes
+  abbrev of_below : Node → Bool
+  of_below n = is_below nodes x n.serial && is_self_or_reader nodes n.serial s
+
+  abbrev own_or_below : Bool
+  own_or_below = is_self_or_reader nodes x s || list_any (λ (n : Node). is_self_or_reader nodes n.serial s) (descendants nodes x)
+
+  -- a node within another is that or below it
+  is_own_or_below : (i : ℕ) (n : Node) → slice_get nodes i ≡ Some n → is_within nodes x n.serial ≡ ((n.serial == x) || is_below nodes x n.serial)
+  is_own_or_below i n here =
+      let line = lineage_before nodes i n distinct here in
+      ap (list_any (λ (a : Node). a.serial == x)) line
+      ∙ ap (λ b. (n.serial == x) || b) (sym (ap (λ (l : List Node). list_any (λ (a : Node). a.serial == x) (drop 1 l)) line))
+
+  own_within : is_some (node_at nodes x) ≡ true → is_within nodes x x ≡ true
+  own_within known_x = from (any_there (λ (n : Node). n.serial == x) nodes (any_known (λ (n : Node). n.serial == x) nodes x known_x (λ n e. eq-eqb n.serial x e)))
+    where
+      from : ((i : ℕ) × (n : Node) × (slice_get nodes i ≡ Some n) × ((n.serial == x) ≡ true)) → is_within nodes x x ≡ true
+      from at =
+          let n = at.1 in
+          ap (is_within nodes x) (sym (eqb-true n.serial x at.3)) ∙ is_own_or_below at.0 n at.2 ∙ or_left _ _ at.3
+
+  to_within : is_some (node_at nodes x) ≡ true → own_or_below ≡ true → list_any of_node nodes ≡ true
+  to_within known_x q = by_case (or_cases (is_self_or_reader nodes x s) (list_any (λ (n : Node). is_self_or_reader nodes n.serial s) (descendants nodes x)) q)
+    where
+      found : ((i : ℕ) × (n : Node) × (slice_get nodes i ≡ Some n) × (of_below n ≡ true)) → list_any of_node nodes ≡ true
+      found at =
+          let n = at.1 in
+          let parts = and_parts (is_below nodes x n.serial) (is_self_or_reader nodes n.serial s) at.3 in
+          there_any_item of_node nodes at.0 n at.2 (and_from _ _ (is_own_or_below at.0 n at.2 ∙ or_right _ _ parts.0) parts.1)
+
+      by_case : (is_self_or_reader nodes x s ≡ true) ⊎ (list_any (λ (n : Node). is_self_or_reader nodes n.serial s) (descendants nodes x) ≡ true) → list_any of_node nodes ≡ true
+      by_case (inl own) =
+          any_known of_node nodes x known_x
+          (λ n e. and_from _ _ (ap (is_within nodes x) e ∙ own_within known_x) (ap (λ k. is_self_or_reader nodes k s) e ∙ own))
+      by_case (inr below) =
+          found (any_there of_below nodes (sym (any_filter (λ (n : Node). is_below nodes x n.serial) (λ (n : Node). is_self_or_reader nodes n.serial s) nodes) ∙ below))
+
+  from_within : list_any of_node nodes ≡ true → own_or_below ≡ true
+  from_within q = found (any_there of_node nodes q)
+    where
+      found : ((i : ℕ) × (n : Node) × (slice_get nodes i ≡ Some n) × (of_node n ≡ true)) → own_or_below ≡ true
+      found at =
+          let n = at.1 in
+          let parts = and_parts (is_within nodes x n.serial) (is_self_or_reader nodes n.serial s) at.3 in
+          by_case at.0 n at.2 parts.1 (or_cases (n.serial == x) (is_below nodes x n.serial) (sym (is_own_or_below at.0 n at.2) ∙ parts.0))
+        where
+          by_case : (i : ℕ) (n : Node) → slice_get nodes i ≡ Some n → is_self_or_reader nodes n.serial s ≡ true → (n.serial == x ≡ true) ⊎ (is_below nodes x n.serial ≡ true) → own_or_below ≡ true
+          by_case i n here reached (inl e) = or_left _ _ (ap (λ k. is_self_or_reader nodes k s) (sym (eqb-true n.serial x e)) ∙ reached)
+          by_case i n here reached (inr below) =
+              or_right _ _
+              (any_filter (λ (m : Node). is_below nodes x m.serial) (λ (m : Node). is_self_or_reader nodes m.serial s) nodes
+              ∙ there_any_item of_below nodes i n here (and_from _ _ below reached))
+
+  -- what a node and those below it have listed is what it touches
+  below_is : is_some (node_at nodes x) ≡ true → is_some (node_at (elements nodes) s) ≡ true → own_or_below ≡ is_touched nodes x s
+  below_is known_x known_s =
+      both_ways own_or_below (list_any of_node nodes) (to_within known_x) from_within
       ∙ both_ways (list_any of_node nodes) (is_touched nodes x s) to_touched (from_touched known_s)
 
 -- whether an element is one of these nodes or reads one
 abbrev pub reached_by : List Node → List Node → ℕ → Bool
 reached_by nodes ns s = list_any (λ (n : Node). is_self_or_reader nodes n.serial s) ns
 
--- what the nodes within a node reach is what it touches
-pub all_within : (nodes : List Node) (order : List ℕ) → IsGraphOrder nodes order → (tree : List Node) → nodes ≡ tree → IsDistinct tree → (x : ℕ) (old new : List ℕ) → is_some (position (λ t. t == x) order) ≡ true → AreNoted order (reached_by nodes (filter (λ (n : Node). is_within tree x n.serial) tree)) old new → AreNoted order (is_touched_from nodes (Some x)) old new
-all_within nodes order is tree same distinct x old new at_x =
-    subst (λ (ns : List Node). IsDistinct ns → AreNoted order (reached_by nodes (filter (λ (n : Node). is_within ns x n.serial) ns)) old new → AreNoted order (is_touched_from nodes (Some x)) old new) same
+-- what a node and those below it reach is what it touches
+pub all_below : (nodes : List Node) (order : List ℕ) → IsGraphOrder nodes order → (tree : List Node) → nodes ≡ tree → IsDistinct tree → (x : ℕ) (old new : List ℕ) → is_some (position (λ t. t == x) order) ≡ true → AreNoted order (λ s. is_self_or_reader nodes x s || reached_by nodes (descendants tree x) s) old new → AreNoted order (is_touched_from nodes (Some x)) old new
+all_below nodes order is tree same distinct x old new at_x =
+    subst (λ (ns : List Node). IsDistinct ns → AreNoted order (λ s. is_self_or_reader nodes x s || reached_by nodes (descendants ns x) s) old new → AreNoted order (is_touched_from nodes (Some x)) old new) same
     (λ once noted.
-    noted_by order (reached_by nodes (filter (λ (n : Node). is_within nodes x n.serial) nodes)) (is_touched_from nodes (Some x)) old new
-    (λ s r at_s. part_is nodes once x s (known nodes order is s r at_s) ∙ sym (ap (λ b. b && is_touched nodes x s) (is_known nodes order is x true at_x)))
+    noted_by order (λ s. is_self_or_reader nodes x s || reached_by nodes (descendants nodes x) s) (is_touched_from nodes (Some x)) old new
+    (λ s r at_s.
+    below_is nodes once x s (node_known nodes order is nodes x refl at_x) (known nodes order is s r at_s)
+    ∙ sym (ap (λ b. b && is_touched nodes x s) (is_known nodes order is x true at_x)))
     noted)
     distinct
 

@@ -15,9 +15,9 @@ ghost use Rattle.smil_nodes.specs.Endings.{AreHomes, HasHome, ending_in, home_at
 use super::schedule::Schedule;
 use smil_duration::takes_implicit;
 use smil_element::{Ending, is_named};
-use smil_endsync::{Ends, by_endsync};
+use smil_endsync::{Ends, Summing, by_endsync};
 use smil_instance_rows::copy_each;
-use smil_model::{Attrs, ChildEnd, Duplicate, Kind, Time, position_in};
+use smil_model::{Attrs, ChildEnd, Duplicate, Endsync, Kind, Time, position_in};
 use smil_tree::Tree;
 use std::alloc::{AllocError, Global};
 use std::marker::Model;
@@ -213,9 +213,33 @@ fn ends_of(alloc: Global, tree: &Tree, schedule: &Schedule) -> Result<Vec<Ends>,
     let mut ends = Vec::new(alloc);
     for row in schedule.rows() {
         let children = children_of(alloc, tree, row.serial)?;
-        ends.push(Ends::of(alloc, children, is_summed(tree, row.serial))?)?;
+        ends.push(Ends::of(alloc, children, summing_of(tree, row.serial))?)?;
     }
     Ok(ends)
+}
+
+// By which rule the duration of an element follows from the ends of all its time children, if it
+// does.
+fn summing_of(tree: &Tree, who: u32) -> Option<Summing>
+    requires { has_element tree.now.nodes who ≡ true }
+    ensures { (e : AnyNode) → node_at (elements tree.now.nodes) who ≡ Some e
+        → is_some result ≡ (has_endsync e.kind && has_implicit_duration e) }
+{
+    tree.valid();
+    if is_summed(tree, who) {
+        Some(rule_of(&tree.attrs(who).endsync))
+    } else {
+        None
+    }
+}
+
+// The rule of a value of `endsync`; `last`, where no child has the name that it has.
+fn rule_of(endsync: &Option<Endsync>) -> Summing {
+    match endsync {
+        Some(Endsync::First) => Summing::First,
+        Some(Endsync::All) => Summing::All,
+        _ => Summing::Last,
+    }
 }
 
 // Whether the duration of an element follows from the ends of all its time children.

@@ -152,7 +152,8 @@ fn note_within(
     if graph.place_in_order(who).is_none() {
         return Ok(());
     }
-    for node in tree.within(who) {
+    note_element(graph, who, agenda)?;
+    for node in tree.below(who) {
         note_element(graph, node.serial, agenda)?;
     }
     Ok(())

@@ -8,5 +8,5 @@ pub of-requires : goal.of-requires
 of-requires c =
     let long : length c.as_slice.result.now ≡ length c.args.children.now =
     ap (λ (xs : List EndSummary). length xs) (c.as_slice.ensures.value ∙ c.in_ok-summaries.ensures)
-    ∙ length-map c.args.children.now one_end in
+    ∙ length-map c.args.children.now (one_end c.in-Some.summing) in
     omega (arith, long, c.requires)

@@ -12,8 +12,8 @@ pub children_of-requires : goal.children_of-requires
 children_of-requires c =
     ap is_some (rowed_in c.args.tree.now.nodes c.args.schedule.now c.rows-row-items.result.now c.loop-row.row-index (row_without 0) c.valid.ensures.numbered.distinct c.requires c.rows-row-items.ensures c.loop-row-test.true).known
 
-pub is_summed-requires : goal.is_summed-requires
-is_summed-requires c =
+pub summing_of-requires : goal.summing_of-requires
+summing_of-requires c =
     ap is_some (rowed_in c.args.tree.now.nodes c.args.schedule.now c.rows-row-items.result.now c.loop-row.row-index (row_without 0) c.valid.ensures.numbered.distinct c.requires c.rows-row-items.ensures c.loop-row-test.true).known
 
 pub of-requires : goal.of-requires

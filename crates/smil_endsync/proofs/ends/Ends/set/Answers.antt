@@ -9,16 +9,16 @@ use Rattle.smil_endsync.proofs.ends.Ends.set.Goals as goal
 pub put_summary-requires : goal.put_summary-requires
 put_summary-requires c =
     let i = c.self.inside in
-    long_enough i.children.items i.summaries c.args.child c.self.invariant.own
+    long_enough i.summing i.children.items i.summaries c.args.child c.self.invariant.own
     (omega (arith, c.requires, ap (λ (xs : List ChildEnd). length xs) c.self.view_is))
 
 pub invariant_of-self : goal.invariant_of-self
 invariant_of-self c =
     let i = c.self.inside in
     let own = c.index.result.now in
-    subst (λ (summaries : Option (List EndSummary)). AreSummed (set i.children.items c.args.child (record { named = own.named; first = c.args.first; latest = c.args.latest })) i.named summaries)
+    subst (λ (summaries : Option (List EndSummary)). AreSummed (set i.children.items c.args.child (record { named = own.named; first = c.args.first; latest = c.args.latest })) i.named i.summing summaries)
     (sym (c.put_summary.ensures ∙ ap (λ (s : EndSummary). option_map (λ (all : List EndSummary). set all c.args.child s) i.summaries) c.one.ensures))
-    (summed_next i.children.items i.named i.summaries c.args.child c.args.first c.args.latest own c.self.invariant c.index.ensures
+    (summed_next i.summing i.children.items i.named i.summaries c.args.child c.args.first c.args.latest own c.self.invariant c.index.ensures
     (omega (arith, c.requires, ap (λ (xs : List ChildEnd). length xs) c.self.view_is)))
 
 pub returns : goal.returns

@@ -3,19 +3,19 @@ use Rattle.std.specs.Prelude.{◌==◌, slice_index}
 use Rattle.std.specs.List.Sorted.{IsStrictlyIncreasing}
 use Rattle.std.proofs.lemmas.List.{take_at}
 use Rattle.smil_model.specs.PlaceSet.{is_in, places_of}
-use Rattle.smil_model.proofs.PlaceSets.{least_of_all, least_out, none_at_all, none_before, rising}
+use Rattle.smil_model.proofs.PlaceSets.{least_of_all, least_out, no_places, none_before, none_left, rising}
 use Rattle.smil_model.proofs.place_set.PlaceSet.take_first.Goals as goal
 
-pub returns-then-word-len-clause-taken : goal.returns-then-word-len-clause-taken
-returns-then-word-len-clause-taken c =
+pub returns-then-word-self-clause-taken : goal.returns-then-word-self-clause-taken
+returns-then-word-self-clause-taken c =
     let words = c.self.inside.words.items in
     let word = c.first_word-word.result in
     let empty = λ (i : ℕ) (from : c.self.inside.first ≤ i) (less : i < word). ap (λ (ws : List ℕ). slice_index ws i) (sym c.deref.ensures.value) ∙ c.first_word-word.ensures.below i from less in
-    let none : places_of words ≡ [] = none_at_all words word (omega (arith, c.if-word-len.true, c.len.ensures, c.self.inside.words.ok.0)) (none_before words c.self.inside.first word c.self.invariant.none_before empty) in
+    let none : places_of words ≡ [] = no_places words (none_left words word c.self.inside.end (omega (arith, c.if-word-self.true)) (none_before words c.self.inside.first word c.self.invariant.none_before empty) c.self.invariant.none_behind) in
     (sym c.self.view_is ∙ none, none)
 
-pub returns-then-word-len-clause-order : goal.returns-then-word-len-clause-order
-returns-then-word-len-clause-order c = subst IsStrictlyIncreasing c.self.view_is (rising c.self.inside.words.items)
+pub returns-then-word-self-clause-order : goal.returns-then-word-self-clause-order
+returns-then-word-self-clause-order c = subst IsStrictlyIncreasing c.self.view_is (rising c.self.inside.words.items)
 
 pub returns-clause-taken : goal.returns-clause-taken
 returns-clause-taken c =
