@@ -66,8 +66,7 @@ ENDS = [('\r\n', 'crlf|'), ('\n', '|'), ('', 'open|')]
 
 LOAD = 'load d\npar\n  img id="a" begin="1s" dur="2s"\n%%\n'
 FIRST = LOAD + 'd advance 5s\n'
-CHANGES = '0 #1 active 0 3000 0 0\n0 a waiting 1000 3000 0 0\n'
-LOADED = CHANGES + 'ok 1 d 0\n'
+LOADED = '0 #1 active 0 3000 0 0\n0 a waiting 1000 3000 0 0\nok 1 d 0\n'
 MOVES = '1000 a active 1000 3000 0 0\n3000 #1 frozen 0 3000 0 1\n3000 a done 1000 3000 0 1\n'
 ANSWERED = LOADED + MOVES + 'ok 5 d 5000\n'
 USAGE = 'usage: smilplay run | smilplay check | smilplay gen N | smilplay audit\n'
@@ -110,8 +109,8 @@ CASES = [
     ('The first write fails', 'run writes=1', FIRST, '', 4),
     ('Of four reads the second one ends the load, and the third one, which would end the advance, fails',
      'run chunk=24 reads=3', FIRST, LOADED, 3),
-    ('The write of the last line of the first answer fails', 'run writes=2', FIRST, CHANGES, 4),
-    ('The write of the second answer fails', 'run writes=3', FIRST, LOADED, 4),
+    ('An answer has one write, so the second one is of the second answer, and fails', 'run writes=2', FIRST, LOADED, 4),
+    ("A third write, which would fail, doesn't come", 'run writes=3', FIRST, ANSWERED, 0),
     ('Room for the first answer alone', f'run room={len(LOADED)}', FIRST, LOADED, 4),
     ('Room for the whole transcript', f'run room={len(ANSWERED)}', FIRST, ANSWERED, 0),
     ('Lines that end with carriage returns, and a last one without an end', 'run', LINE_ENDS, LINE_ENDS_TOLD, 0),

@@ -9,6 +9,6 @@ mod verbs;
 mod words;
 
 pub use entries::{DiaryLine, VALUE_DIGITS, read_diary_line};
-pub use lines::{ends_load, is_blank, opens_load, read_line};
+pub use lines::{ends_load, is_blank, opens_load, read_line, read_order};
 pub use smil_grammar::Read;
 pub use words::{attribute, event_name};

@@ -1,6 +1,6 @@
 //! Orders by their verb.
 
-ghost use Rattle.std.specs.Prelude.{◌≡◌, IfOk};
+ghost use Rattle.std.specs.Prelude.{◌≡◌, IfOk, bytes_eq, codes, false};
 ghost use Rattle.smil_grammar.specs.Scripts.{order_line, finish};
 ghost use Rattle.smil_grammar.specs.Gives.{GivesReading};
 ghost use Rattle.smil_script.specs.Copies.{IsForCopy, order_copies};
@@ -24,7 +24,23 @@ pub fn order(alloc: Global, verb: &[u8], line: &Piece<'_>) -> Result<Order, Refu
         verbs::seek(line)
     } else if is(verb, b"event") {
         verbs::event(alloc, line)
-    } else if is(verb, b"media") {
+    } else {
+        rarer(alloc, verb, line)
+    }
+}
+
+// The same of a verb that stands in few lines: a function of its own, so that a line with another
+// needs no room for what these give.
+#[inline(never)]
+fn rarer(alloc: Global, verb: &[u8], line: &Piece<'_>) -> Result<Order, Refusal>
+    requires advance { bytes_eq verb.now (codes "advance") ≡ false }
+    requires seek { bytes_eq verb.now (codes "seek") ≡ false }
+    requires event { bytes_eq verb.now (codes "event") ≡ false }
+    ensures reading { GivesReading result (finish (order_line verb.now line.now)) }
+    ensures copied { IsForCopy (order_copies verb.now line.now) result }
+    ensures given { IfOk result IsGiven }
+{
+    if is(verb, b"media") {
         verbs::media(alloc, line)
     } else if is(verb, b"set") {
         verbs::set(alloc, line)

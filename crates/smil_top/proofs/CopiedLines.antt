@@ -1,6 +1,6 @@
 -- Lines for which something is copied.
-use Rattle.std.proofs.Common.{◌≡◌, ℕ, Bool, true, List, Result, Ok, Err, ap}
-use Rattle.std.specs.Prelude.{◌||◌, is_ok}
+use Rattle.std.proofs.Common.{◌≡◌, ℕ, Bool, true, List, Option, Some, Result, Ok, Err, ap, subst}
+use Rattle.std.specs.Prelude.{◌||◌, IfSome, is_ok}
 use Rattle.smil_model.specs.declared.order.Refusal.{Refusal}
 use Rattle.smil_grammar.specs.Positions.{Piece}
 use Rattle.smil_grammar.specs.Scripts.{first_of, line_of}
@@ -17,3 +17,7 @@ copied-read line read is =
 pub copied-any : {A : Type 0} (copies : Bool) (r : Result A Refusal) → copies ≡ true → IsForCopy copies r
 copied-any copies (Ok done) e = tt
 copied-any copies (Err refusal) e = λ memory. e
+
+-- what is said of a value, where it is this one
+pub said-of : {A : Type 0} (P : A → Type 0) (o : Option A) (x : A) → o ≡ Some x → IfSome o P → P x
+said-of P o x is says = subst (λ v. IfSome v P) is says

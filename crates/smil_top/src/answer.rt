@@ -37,7 +37,7 @@ impl Answer {
         ensures { self.new ≡ no_text }
     {
         self.told.cut_back(0);
-        self.last = LastLine::none();
+        self.last.clear();
     }
 
     /// Where the order was refused, puts the line of the refusal in place of the text.
@@ -58,8 +58,26 @@ impl Answer {
         told.saturating_add(line_feeds(self.last.slice()))
     }
 
-    /// Writes the text. After a fault the sink has taken a part from the front of it, and not all.
-    pub fn write<K: Sink>(&self, sink: &mut K) -> Result<(), Failed>
+    /// Writes the text, at once where there is memory for it. After a fault the sink has taken a
+    /// part from the front of it, and not all.
+    pub fn write<K: Sink>(&mut self, sink: &mut K) -> Result<(), Failed>
+        ensures answer { self.new ≡ self.old }
+        ensures writes { Writes result (K.taken sink.old) (K.taken sink.new) (K.sure_room sink.old)
+            (K.sure_room sink.new) (text_of self.old) }
+        ensures kept { OnOk result (K.faults sink.new ≡ K.faults sink.old) }
+        ensures cause { OnErr result (HasRisen (K.faults sink.old) (K.faults sink.new)) }
+    {
+        let len = self.told.len();
+        if self.told.append(self.last.slice()).is_err() {
+            return self.write_apart(sink);
+        }
+        let written = write_all(sink, self.told.slice());
+        self.told.cut_back(len);
+        written
+    }
+
+    // Writes what is told, and then the last line.
+    fn write_apart<K: Sink>(&self, sink: &mut K) -> Result<(), Failed>
         ensures writes { Writes result (K.taken sink.old) (K.taken sink.new) (K.sure_room sink.old)
             (K.sure_room sink.new) (text_of self.now) }
         ensures kept { OnOk result (K.faults sink.new ≡ K.faults sink.old) }

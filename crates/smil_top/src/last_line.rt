@@ -42,6 +42,13 @@ impl LastLine {
         }
     }
 
+    /// Leaves no line.
+    pub fn clear(&mut self)
+        ensures { self.new ≡ [] }
+    {
+        self.len = 0;
+    }
+
     /// The line of an order, whose first line has this number, to the presentation of this name,
     /// which is at this moment.
     pub fn ok(line: u32, name: &[u8], now: i64) -> LastLine

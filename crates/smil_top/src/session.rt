@@ -5,6 +5,7 @@ ghost use Rattle.smil_model.specs.declared.limits.TheConstants.{NAME_BYTES};
 ghost use Rattle.smil_model.specs.document.Limits.{limits};
 ghost use Rattle.smil_model.specs.document.Valid.{IsValid};
 ghost use Rattle.smil_model.specs.shown.Answers.{IsGiven};
+ghost use Rattle.smil_grammar.specs.declared.read.Read.TheVariants.{To};
 ghost use Rattle.smil_script.specs.Copies.{IsForCopy, line_copies};
 ghost use Rattle.smil_script.specs.Gives.{HoldsGiven};
 ghost use Rattle.smil_top.specs.Session.{Session as Presentations};
@@ -24,7 +25,7 @@ use smil_live::Presentation;
 use smil_model::{Bytes, Order, Refusal};
 use smil_outline::{write_doc, write_doc_2};
 use smil_outside::LINE_BYTES;
-use smil_script::read_line;
+use smil_script::{read_line, read_order};
 use smil_switch::Preferences;
 use std::alloc::{AllocError, Global};
 use std::sync::ledger::Ledger;
@@ -42,7 +43,7 @@ pub(crate) struct Session {
 // An order, with the name of the presentation that it is for.
 #[derive(Clone, Copy)]
 struct NamedOrder<'a> {
-    name: &'a Bytes,
+    name: &'a [u8],
     order: &'a Order,
 }
 
@@ -88,8 +89,43 @@ impl Session {
             → IsCounted result (λ (bound : Bound). line_number bound session line.now)
             (steps.new - steps.old) }
     {
+        if let Some((name, order)) = read_order(self.alloc, line)? {
+            let named = NamedOrder {
+                name,
+                order: &order,
+            };
+            return self.answer_order(number, &named, answer, steps);
+        }
         let read = read_line(self.alloc, line)?;
         self.answer_read(number, &read, answer, steps)
+    }
+
+    // Answers an order to a presentation, unless loads are only read.
+    fn answer_order<L: Ledger>(
+        &mut self,
+        number: u32,
+        named: &NamedOrder<'_>,
+        answer: &mut Answer,
+        steps: &mut Steps<L>,
+    ) -> Result<(), Refusal>
+        requires given { IsGiven named.now.order.now }
+        requires name { length named.now.name.now ≤ NAME_BYTES }
+        requires empty { answer.old ≡ no_text }
+        ensures answer { (session : Presentations) → Keeps self.old session
+            → Makes result answer.new self.new session
+            (single_by self.old.checks session number (To named.now.name.now named.now.order.now)) }
+        ensures checks { self.new.checks ≡ self.old.checks }
+        ensures counted { steps.old ≤ steps.new }
+        ensures evaluated { (session : Presentations) → Keeps self.old session
+            → self.old.checks ≡ false
+            → IsCounted result (λ (bound : Bound). said_number bound session
+            (To named.now.name.now named.now.order.now))
+            (steps.new - steps.old) }
+    {
+        if self.checks {
+            return Ok(());
+        }
+        self.answer_to(number, named, answer, steps)
     }
 
     // Answers a line by what it says.
@@ -126,6 +162,7 @@ impl Session {
             }
             Read::Close { name } => self.close(number, name, answer),
             Read::To { name, order } => {
+                let name = name.slice();
                 let named = NamedOrder { name, order };
                 self.answer_to(number, &named, answer, steps)
             }
@@ -179,11 +216,10 @@ impl Session {
             named.now.name.now named.now.order.now)
             (steps.new - steps.old) }
     {
-        let name = named.name.slice();
         let now = self
             .house
-            .answer(name, named.order, &mut answer.told, steps)?;
-        answer.last = LastLine::ok(number, name, now);
+            .answer(named.name, named.order, &mut answer.told, steps)?;
+        answer.last = LastLine::ok(number, named.name, now);
         Ok(())
     }
 

@@ -1,24 +1,18 @@
-use Rattle.std.proofs.Common.{subst}
-use Rattle.smil_top.specs.Running.{WritesAll, Writes}
-use Rattle.smil_top.proofs.TextsWritten.{Writes-of, Writes-two}
+use Rattle.std.proofs.Common.{◌≡◌, ◌++◌, ◌∙◌, ap, subst, sym}
+use Rattle.smil_top.specs.Running.{Writes, text_of}
+use Rattle.smil_top.proofs.TextsWritten.{Writes-of, where_ok}
 use Rattle.smil_top.proofs.answer.Answer.write.Goals as goal
 
 pub returns-clause-writes : goal.returns-clause-writes
 returns-clause-writes g c =
     let before = g.K.Sink.taken c.args.sink.now in
-    let middle = g.K.Sink.taken c.write_all.new.sink in
-    let after = g.K.Sink.taken c.write_all-2.new.sink in
+    let after = g.K.Sink.taken c.write_all-written.new.sink in
     let room = g.K.Sink.sure_room c.args.sink.now in
-    let between = g.K.Sink.sure_room c.write_all.new.sink in
-    let left = g.K.Sink.sure_room c.write_all-2.new.sink in
-    let one : WritesAll before middle room between c.args.self.now.told =
-    subst (λ zs. WritesAll before middle room between zs) c.slice.ensures (c.in_ok-write_all.ensures.ok, c.in_ok-write_all.ensures.room)
+    let left = g.K.Sink.sure_room c.write_all-written.new.sink in
+    let e = c.write_all-written.ensures in
+    let appended : c.append.new.self ≡ c.args.self.now.told ++ c.slice.result.now =
+    where_ok c.append.result (c.append.new.self ≡ c.args.self.now.told ++ c.slice.result.now) (sym c.is_err.ensures.value ∙ c.if-is_err.false) c.append.ensures.ok
     in
-    let e = c.write_all-2.ensures in
-    let two : Writes c.write_all-2.result middle after between left c.args.self.now.last =
-    subst
-    (λ zs. Writes c.write_all-2.result middle after between left zs)
-    c.slice-2.ensures
-    (Writes-of c.write_all-2.result middle after between left c.slice-2.result.now e.ok e.err e.sure e.room)
-    in
-    Writes-two c.write_all-2.result before middle after room between left c.args.self.now.told c.args.self.now.last one two
+    let text : c.slice-2.result.now ≡ text_of c.args.self.now = c.slice-2.ensures ∙ appended ∙ ap (λ l. c.args.self.now.told ++ l) c.slice.ensures in
+    subst (λ zs. Writes c.write_all-written.result before after room left zs) text
+    (Writes-of c.write_all-written.result before after room left c.slice-2.result.now e.ok e.err e.sure e.room)

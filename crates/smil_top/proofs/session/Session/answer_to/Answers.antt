@@ -17,7 +17,7 @@ returns-clause-answer g c session keeps =
     let so_far = c.args.self.now in
     let new = c.answer.new.self in
     let number : ℕ = c.args.number in
-    let name : List ℕ = c.slice-name.result.now in
+    let name : List ℕ = c.args.named.now.name.now in
     let order = c.args.named.now.order.now in
     let told : List ℕ = c.answer.new.out in
     let text : List ℕ = drop (length c.args.answer.now.told) told in
@@ -25,24 +25,20 @@ returns-clause-answer g c session keeps =
     let now : to_z w64 (of_z w64 c.in_ok-now.now) ≡ c.in_ok-now.now = omega (arith, ints) in
     let last : c.ok-answer.result ≡ ok_line number name c.in_ok-now.now = c.ok-answer.ensures ∙ ap (ok_line number name) now in
     let made = made-ordered name order so_far new session number keeps text told (c.answer.new.steps - c.args.steps.now) c.in_ok-now.now is c.in_ok-now.ensures.ok in
-    subst
-    (λ n. Makes (Ok tt) (record { told = told; last = c.ok-answer.result }) (in_house so_far new) session (ordered_within limits session number n order))
-    c.slice-name.ensures
-    (subst (λ l. Makes (Ok tt) (record { told = told; last = l }) (in_house so_far new) session (ordered_within limits session number name order)) (sym last) made)
+    subst (λ l. Makes (Ok tt) (record { told = told; last = l }) (in_house so_far new) session (ordered_within limits session number name order)) (sym last) made
 
 pub returns-in_err-now-clause-answer : goal.returns-in_err-now-clause-answer
 returns-in_err-now-clause-answer g c session keeps =
     let so_far = c.args.self.now in
     let new = c.answer.new.self in
     let number : ℕ = c.args.number in
-    let name : List ℕ = c.slice-name.result.now in
+    let name : List ℕ = c.args.named.now.name.now in
     let order = c.args.named.now.order.now in
     let text : AnswerText = c.args.answer.now in
     let refusal : Refusal = c.in_err-now.field-0.0 in
     let p = err_from_is_err_and c.from_residual.result c.from_residual.ensures.1 in
     let unmade = unmade-ordered name order so_far new session number keeps text (c.answer.new.steps - c.args.steps.now) refusal c.in_err-now.ensures.refused c.in_err-now.ensures.kept in
-    rw p.1 (subst (λ e. Makes (Err e) text (in_house so_far new) session (ordered_within limits session number c.args.named.now.name.now order)) (sym p.2)
-    (subst (λ n. Makes (Err refusal) text (in_house so_far new) session (ordered_within limits session number n order)) c.slice-name.ensures unmade))
+    rw p.1 (subst (λ e. Makes (Err e) text (in_house so_far new) session (ordered_within limits session number name order)) (sym p.2) unmade)
 
 pub returns-clause-evaluated : goal.returns-clause-evaluated
 returns-clause-evaluated g c session keeps =
@@ -50,8 +46,7 @@ returns-clause-evaluated g c session keeps =
     let order = c.args.named.now.order.now in
     let text : List ℕ = drop (length c.args.answer.now.told) c.answer.new.out in
     let rise : ℕ = c.answer.new.steps - c.args.steps.now in
-    subst (λ n. IsCounted (Ok tt) (λ bound. ordered_number bound session n order) rise) c.slice-name.ensures
-    (counted-ordered c.slice-name.result.now order house c.answer.new.self session keeps.held text rise c.in_ok-now.now c.in_ok-now.ensures.ok)
+    counted-ordered c.args.named.now.name.now order house c.answer.new.self session keeps.held text rise c.in_ok-now.now c.in_ok-now.ensures.ok
 
 pub returns-in_err-now-clause-evaluated : goal.returns-in_err-now-clause-evaluated
 returns-in_err-now-clause-evaluated g c session keeps =
@@ -61,5 +56,4 @@ returns-in_err-now-clause-evaluated g c session keeps =
     let refusal : Refusal = c.in_err-now.field-0.0 in
     let p = err_from_is_err_and c.from_residual.result c.from_residual.ensures.1 in
     rw p.1 (subst (λ e. IsCounted (Err e) (λ bound. ordered_number bound session c.args.named.now.name.now order) rise) (sym p.2)
-    (subst (λ n. IsCounted (Err refusal) (λ bound. ordered_number bound session n order) rise) c.slice-name.ensures
-    (counted-unordered c.slice-name.result.now order house c.answer.new.self session keeps.held rise refusal c.in_err-now.ensures.refused)))
+    (counted-unordered c.args.named.now.name.now order house c.answer.new.self session keeps.held rise refusal c.in_err-now.ensures.refused))
