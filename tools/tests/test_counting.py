@@ -11,8 +11,9 @@ from calling import TOP
 
 # The library too counts the evaluations of a line by a counter made for it, since its caller is told of none.
 PROGRAMS = ("smilplay", "smil_test_sessions", "smil_test_plays", "smil_test_texts", "tenphsar")
-SEARCHES = re.compile(r"\b(?:first_interval|next_interval|interval_at)\b")
-COUNTERS = re.compile(r"\bBlank::new\b|\bSteps(?:::<\w+>)?::new\b|\.open::<")
+# What every crate may take from smil_interval, besides types: the call that counts, and a comparison of intervals.
+CALLS = {"evaluate", "is_same_interval"}
+COUNTERS = re.compile(r"\bledger::(?:\{.*)?\bBlank\b|\bBlank::new\b|\bSteps(?:::<\w+>)?::new\b|\.open::<")
 
 
 def code(path):
@@ -22,9 +23,11 @@ def code(path):
     return enumerate(text.split("\n"), 1)
 
 
-def imported(line):
-    """What a line takes from another crate by `use` or by a path."""
-    return line if re.match(r"\s*(?:pub )?use ", line) or "smil_interval::" in line else ""
+def taken(line):
+    """What a line takes from smil_interval besides types, by `use` or by a path: calls, modules, `*` and `self`."""
+    parts = re.findall(r"\bsmil_interval\b(?:::(\{[^}]*\}|\w+|\*))?", line)
+    names = {name for part in parts for name in re.findall(r"[\w*]+", part) or ["self"]}
+    return {name for name in names if not name[0].isupper()}
 
 
 class Counting(unittest.TestCase):
@@ -54,7 +57,7 @@ class Counting(unittest.TestCase):
         self.assertEqual([line.strip() for line in ticks], ["steps.tick();"])
 
     def test_intervals_are_searched_by_evaluate_and_the_program_of_cases_alone(self):
-        places = self.found(lambda line: SEARCHES.search(imported(line)))
+        places = self.found(lambda line: taken(line) - CALLS)
         self.assertEqual(set(places) - {"smil_interval"}, {"smil_test_texts"}, places)
 
 
