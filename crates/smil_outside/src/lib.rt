@@ -21,7 +21,7 @@ pub use line::{INPUT_BYTES, Line};
 pub use line_reader::LineReader;
 pub use mem_sink::MemSink;
 pub use mem_source::{CHUNK_BYTES, MemSource};
-pub use sink::{Sink, write_all};
+pub use sink::{Sink, write_all, write_out};
 pub use smil_model::LINE_BYTES;
 pub use source::Source;
 pub use std_sink::StdSink;

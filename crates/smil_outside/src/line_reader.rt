@@ -1,8 +1,9 @@
 //! The lines of what a source gives.
 
-ghost use Rattle.std.specs.Prelude.{◌≡◌, ◌≢◌, ◌⊎◌, ◌+◌, ◌<◌, ◌≤◌, [], false, length, take, drop, IfOk, IfSome, IsNone, IsTrue};
+ghost use Rattle.std.specs.Prelude.{◌≡◌, ◌≢◌, ◌↔◌, ◌⊎◌, ◌+◌, ◌<◌, ◌≤◌, ℕ, [], false, length, take, drop, slice_index, IfOk, IfSome, IsNone, IsTrue};
 ghost use Rattle.std.specs.Str.Lines.{strip_carriage_return};
 ghost use Rattle.smil_outside.specs.Faults.{HasRisen};
+ghost use Rattle.smil_model.specs.document.Words.{line_feed};
 
 use crate::line::{Ending, INPUT_BYTES, Line};
 use crate::scan::{Stop, seek_line_end};
@@ -65,6 +66,15 @@ impl LineReader {
         ensures bound { result ≤ INPUT_BYTES }
     {
         self.number
+    }
+
+    /// Whether a whole line has come that wasn't answered yet, so that `next` answers it without a
+    /// read. It takes no memory.
+    pub fn has_line(&self) -> bool
+        ensures { IsTrue result ↔ ((at : ℕ) × (at < length self.now.pending)
+            × (slice_index self.now.pending at ≡ line_feed)) }
+    {
+        self.window.line_feed(0).is_some()
     }
 
     /// The next line, or how the input ended. It takes no memory, and offers the source a room of

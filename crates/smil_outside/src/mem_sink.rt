@@ -3,6 +3,7 @@
 ghost use Rattle.std.specs.Prelude.{◌≡◌, ◌↔◌, ◌⊎◌, ◌+◌, ◌-◌, ◌<◌, ◌≤◌, [], ◌++◌, length, Some, IsErr, IsOk, IfOk, OnOk, OnErr, Contains};
 ghost use Rattle.std.specs.Io.KnownBytes.{WriteAppends};
 ghost use Rattle.smil_outside.specs.Faults.{HasRisen};
+ghost use Rattle.std.proofs.Common.{rules};
 
 use crate::failed::Failed;
 use crate::fault_plan::FaultPlan;
@@ -93,4 +94,14 @@ impl Sink for MemSink {
         self.len = end;
         Ok(piece.len())
     }
+
+    /// Does nothing, since nothing is kept back.
+    fn hand_on(&mut self) -> Result<(), Failed>
+        ensures ok { IsOk result }
+        ensures same { self.new ≡ self.old }
+    {
+        Ok(())
+    }
+
+    ghost unsure = { Prim.search rules };
 }

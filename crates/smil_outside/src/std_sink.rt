@@ -1,7 +1,7 @@
 //! A sink over a writer of std.
 
-ghost use Rattle.std.specs.Prelude.{◌≡◌, ℕ, ◌<◌, ◌≤◌, None, length, take, IfOk, OnOk, OnErr};
-ghost use Rattle.std.specs.Io.KnownBytes.{Appends, WriteAppends};
+ghost use Rattle.std.specs.Prelude.{◌≡◌, ℕ, ◌<◌, ◌≤◌, None, refl, true, length, take, IfOk, OnOk, OnErr};
+ghost use Rattle.std.specs.Io.KnownBytes.{Appends, Keeps, WriteAppends};
 ghost use Rattle.smil_outside.specs.Faults.{HasRisen};
 ghost use Rattle.smil_outside.specs.Std.{more_faults};
 
@@ -10,9 +10,10 @@ use crate::sink::Sink;
 use std::io::Write;
 use std::marker::Model;
 
-/// Hands bytes to a writer, and flushes it after each write. It counts the writer's errors and the
-/// writes that take nothing of a piece. As a sink it tells no bytes, since a flush may fail after
-/// the writer took some; its own clauses tell those of a writer that tells them.
+/// Hands bytes to a writer, which may keep them until it is flushed: `hand_on` flushes it. It counts
+/// the writer's errors and the writes that take nothing of a piece. As a sink it tells no bytes,
+/// since a flush may fail after the writer took some; its own clauses tell those of a writer that
+/// tells them.
 #[derive(Drop)]
 pub struct StdSink<W: Write + Drop> {
     writer: W,
@@ -41,6 +42,8 @@ impl<W: Write + Drop> Sink for StdSink<W> {
 
     ghost faults = { λ s. s.faults };
 
+    ghost keeps_back = { true };
+
     fn write(&mut self, piece: &[u8]) -> Result<usize, Failed>
         ensures bound { IfOk result (λ n. n ≤ length piece.now) }
         ensures progress { IfOk result (λ n. 0 < length piece.now → 0 < n) }
@@ -55,11 +58,27 @@ impl<W: Write + Drop> Sink for StdSink<W> {
     {
         if let Ok(n) = self.writer.write(piece)
             && (n > 0 || piece.is_empty())
-            && self.writer.flush().is_ok()
         {
             return Ok(n);
         }
         self.faults = self.faults.saturating_add(1);
         Err(Failed)
     }
+
+    fn hand_on(&mut self) -> Result<(), Failed>
+        ensures taken { OnOk result (Keeps self.old.bytes self.new.bytes) }
+        ensures kept { OnOk result (self.new.faults ≡ self.old.faults) }
+        ensures cause { OnErr result (HasRisen self.old.faults self.new.faults) }
+        ensures err { OnErr result (self.new.faults ≡ more_faults self.old.faults) }
+    {
+        match self.writer.flush() {
+            Ok(()) => Ok(()),
+            Err(_) => {
+                self.faults = self.faults.saturating_add(1);
+                Err(Failed)
+            }
+        }
+    }
+
+    ghost unsure = { λ s back. (refl, refl) };
 }

@@ -2,7 +2,7 @@
 
 use crate::{
     Failed, INPUT_BYTES, Line, LineReader, MemSink, MemSource, Sink, Source, StdSink, StdSource,
-    write_all,
+    write_all, write_out,
 };
 use std::io;
 use std::io::{Error, Read, Write};
@@ -60,6 +60,18 @@ fn cuts_lines_whatever_the_chunks(rt: HostRuntime) -> Result<(), Fail> {
         )?;
         expect_lines(&rt, MemSource::new(rt.alloc(), b"", chunk, &[])?, "End")?;
     }
+    Ok(())
+}
+
+#[test]
+fn tells_whether_a_line_has_come(rt: HostRuntime) -> Result<(), Fail> {
+    let mut source = MemSource::new(rt.alloc(), b"a\nb\nrest", 6, &[])?;
+    let mut reader = LineReader::new(rt.alloc())?;
+    assert!(rt; !reader.has_line());
+    assert_eq!(rt; reader.next(&mut source), Line::Bytes);
+    assert!(rt; reader.has_line());
+    assert_eq!(rt; reader.next(&mut source), Line::Bytes);
+    assert!(rt; !reader.has_line());
     Ok(())
 }
 
@@ -149,7 +161,8 @@ fn writes_all_or_a_part(rt: HostRuntime) -> Result<(), Fail> {
     assert_eq!(rt; write_all(&mut sink, b"abc"), Ok(()));
     assert_eq!(rt; write_all(&mut sink, b"def"), Err(Failed));
     assert_eq!(rt; write_all(&mut sink, b"de"), Err(Failed));
-    assert_eq!(rt; write_all(&mut sink, b"de"), Ok(()));
+    assert_eq!(rt; write_out(&mut sink, b"de"), Ok(()));
+    assert_eq!(rt; sink.hand_on(), Ok(()));
     assert_eq!(rt; sink.bytes(), b"abcde".as_slice());
     Ok(())
 }
@@ -196,8 +209,10 @@ fn over_std(rt: HostRuntime) -> Result<(), Fail> {
     let found = answers(&rt, &mut source)?;
     assert_eq!(rt; found.as_slice(), b"1:\n2:\nReadFault".as_slice());
     let mut sink = StdSink::new(Pipe { left: 3 });
-    assert_eq!(rt; write_all(&mut sink, b"ab"), Ok(()));
-    assert_eq!(rt; write_all(&mut sink, b"c"), Err(Failed));
+    assert_eq!(rt; write_out(&mut sink, b"ab"), Ok(()));
+    assert_eq!(rt; write_all(&mut sink, b"c"), Ok(()));
+    assert_eq!(rt; sink.hand_on(), Err(Failed));
+    assert_eq!(rt; write_out(&mut sink, b""), Ok(()));
     assert_eq!(rt; write_all(&mut sink, b"d"), Err(Failed));
     Ok(())
 }

@@ -11,6 +11,7 @@ pub struct ReportingSink<'a> {
 }
 
 impl Sink for ReportingSink<'_> {
+    ghost use Rattle.std.proofs.Common.{rules};
     ghost use Rattle.std.specs.Prelude.{Some};
 
     ghost taken = { λ s. Some s.sink.taken };
@@ -22,4 +23,10 @@ impl Sink for ReportingSink<'_> {
         self.taken.set(self.sink.bytes().len());
         Ok(len)
     }
+
+    fn hand_on(&mut self) -> Result<(), Failed> {
+        self.sink.hand_on()
+    }
+
+    ghost unsure = { Prim.search rules };
 }

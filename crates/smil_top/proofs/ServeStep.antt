@@ -25,7 +25,7 @@ use Rattle.smil_top.specs.Transcript.{TranscriptState, IsTranscriptBy, untold}
 use Rattle.smil_top.specs.Words.{is_told}
 use Rattle.smil_top.specs.Serving.{counted_bytes, status_by, status_of, IsWholeTranscript, IsCutShort, IsPart, AreFirst, IsBroken, Runs, Explains, Generates, Serves, ServesBy, reads}
 use Rattle.smil_top.specs.Evaluations.{AreEvaluated, Evaluates, EvaluatesBy}
-use Rattle.smil_top.specs.Running.{answering, asked_by, ended_by, IsAll, IsRunning, IsLine, Tells, Writes, WritesAll, WritesPart, Goes, Answers, AnswersOrders, Ends, Ran, RanCounted, RunsBy}
+use Rattle.smil_top.specs.Running.{answering, asked_by, ended_by, IsAll, IsRunning, IsLine, Tells, text_of, Writes, WritesAll, WritesPart, Goes, Answers, AnswersOrders, Ends, Ran, RanCounted, RunsBy}
 use Rattle.smil_top.proofs.OrderCuts.{cut_of-one_more, count-cut_of, whole-first, orders-first}
 use Rattle.smil_top.proofs.TextsWritten.{Writes-two}
 
@@ -377,6 +377,70 @@ module _ {checks : Bool} {new : ReaderState} {run : Run} {before after taken tak
         written = p.1;
         runs = ((cut_of these).whole, answers.more, orders-read new before after came these has, running.tells.transcript, p.2);
       }
+
+-- then this was told
+pub told-next : {checks : Bool} {run : Run} {taken taken_after : Option (List ℕ)} {room left left' : ℕ} {told : TranscriptState} (taken_before : Option (List ℕ)) (answered : List (List ℕ)) (line : List ℕ) {new : ReaderState} {before after : Option (List ℕ)} {came : List ℕ}
+    (has : HasRead new before after came (answered ++ line ∷ [])) (said : WritesAll taken_before taken room left told.text) (r : Result (Unit {0}) Failed) (went : is_err r ≡ false) (answers : Answers checks r run (with_line (cut_of answered) line) told taken taken_after left left') →
+    (Wrote-next taken_before answered line has said r went answers).0 ≡ answers.more
+unfolding Wrote-next
+told-next taken_before answered line has said (Ok done) went answers = refl
+told-next taken_before answered line has said (Err e) went answers = absurd cc
+
+-- what was told could not be handed on: such a sink tells nothing of what it takes
+pub Ran-unhanded : {checks : Bool} {reader : ReaderState} {run : Run} {before rest taken_before taken taken_after : Option (List ℕ)} {room left : ℕ} (serving : IsServing checks reader run before rest taken_before taken room left) →
+    taken_before ≡ None → room ≡ 0 → 0 < length serving.told.text → Ran checks status.WriteFault run before rest taken_before taken_after room
+Ran-unhanded {reader = reader} {before = before} {rest = rest} {taken_after = after} serving none unsure some = record {
+  came = serving.came;
+  text = [];
+  read = serving.reading.read;
+  written = subst (λ (t : Option (List ℕ)). Appends t after []) (sym none) tt;
+  runs = (
+    (cut_of serving.answered).whole,
+    serving.told,
+    orders-read reader before rest serving.came serving.answered serving.reading,
+    serving.writing.running.tells.transcript,
+    record { rest = serving.told.text; split = refl; some = some; more_than_room = subst (λ n. n < length serving.told.text) (sym unsure) some },
+  );
+}
+
+-- the same for what is told at the end of the input
+pub AnswersOrders-unhanded : {checks : Bool} {run : Run} {orders : List OrderLines} {told : TranscriptState} {before after after' : Option (List ℕ)} {room left left' : ℕ} (done : Unit {0}) (e : Failed) → AnswersOrders checks (Ok done) run orders told before after room left →
+    before ≡ None → room ≡ 0 → 0 < length (text_of run.answer) → AnswersOrders checks (Err e) run orders told before after' room left'
+AnswersOrders-unhanded {after' = after} done e answers none unsure some =
+    let text : List ℕ = answers.goes.text in
+    let some_text : 0 < length text = subst (λ (t : List ℕ). 0 < length t) answers.stands some in
+    record {
+      more = answers.more;
+      goes = record {
+        text = text;
+        text_is = answers.goes.text_is;
+        writes = (0, some_text, subst (λ (t : Option (List ℕ)). Appends t after (take 0 text)) (sym none) tt, subst (λ n. n < length text) (sym unsure) some_text);
+      };
+      stands = answers.stands;
+      tells = answers.tells;
+    }
+
+-- what was written stays so where it is handed on
+pub written-handed : (before taken taken' : Option (List ℕ)) (room left left' : ℕ) (text : List ℕ) → taken' ≡ taken → left ≤ left' → WritesAll before taken room left text → WritesAll before taken' room left' text
+written-handed before taken taken' room left left' text same more written = (subst (λ (t : Option (List ℕ)). Appends before t text) (sym same) written.0, omega (arith, written.1, more))
+
+pub AnswersOrders-handed : {checks : Bool} {run : Run} {orders : List OrderLines} {told : TranscriptState} {before after after' : Option (List ℕ)} {room left left' : ℕ} (done : Unit {0}) → after' ≡ after → left ≤ left' →
+    AnswersOrders checks (Ok done) run orders told before after room left → AnswersOrders checks (Ok done) run orders told before after' room left'
+AnswersOrders-handed {before = before} {after = after} {after' = after'} {room = room} {left = left} {left' = left'} done same more answers = record {
+  more = answers.more;
+  goes = record { text = answers.goes.text; text_is = answers.goes.text_is; writes = written-handed before after after' room left left' answers.goes.text same more answers.goes.writes };
+  stands = answers.stands;
+  tells = answers.tells;
+}
+
+abbrev pub Wrote-handed : (checks : Bool) (run : Run) (before taken taken' : Option (List ℕ)) (room left left' : ℕ) (answered : List (List ℕ)) → taken' ≡ taken → left ≤ left' → Wrote checks run before taken room left answered → Wrote checks run before taken' room left' answered
+Wrote-handed checks run before taken taken' room left left' answered same more wrote =
+    (wrote.0, record { running = wrote.1.running; written = written-handed before taken taken' room left left' wrote.0.text same more wrote.1.written })
+
+-- something was told, before or now
+pub some-told : (told more text : List ℕ) → more ≡ told ++ text → (0 < length told) ⊎ (0 < length text) → 0 < length more
+some-told told more text is (inl some) = subst (λ (zs : List ℕ). 0 < length zs) (sym is) (omega (arith, some, length-append told text))
+some-told told more text is (inr some) = subst (λ (zs : List ℕ). 0 < length zs) (sym is) (omega (arith, some, length-append told text))
 
 pub Wrote-fresh : (checks : Bool) (run : Run) (taken : Option (List ℕ)) (room : ℕ) → IsRunning checks run (cut_of []) untold → Wrote checks run taken taken room room []
 Wrote-fresh checks run taken room running = (untold, record { running = running; written = (Appends-nil taken, omega arith) })

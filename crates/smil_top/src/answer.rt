@@ -1,6 +1,6 @@
 //! The text of an answer, made whole before it is written.
 
-ghost use Rattle.std.specs.Prelude.{◌≡◌, ◌≤◌, length, min, OnOk, OnErr};
+ghost use Rattle.std.specs.Prelude.{◌≡◌, ◌↔◌, ◌<◌, ◌≤◌, length, min, OnOk, OnErr, IsTrue};
 ghost use Rattle.smil_outside.specs.Faults.{HasRisen, last_count};
 ghost use Rattle.smil_top.specs.Running.{Writes, finished, no_text, text_of};
 ghost use Rattle.smil_top.specs.Summary.{line_count};
@@ -48,6 +48,13 @@ impl Answer {
             self.told.cut_back(0);
             self.last = LastLine::refused(fault.line, &fault.refusal);
         }
+    }
+
+    /// Whether there is a text.
+    pub fn has_text(&self) -> bool
+        ensures { IsTrue result ↔ (0 < length (text_of self.now)) }
+    {
+        !self.told.slice().is_empty() || !self.last.slice().is_empty()
     }
 
     /// How many lines the text has, up to the greatest number.

@@ -11,6 +11,7 @@ use smil_outside::{Failed, Sink};
 pub(crate) struct Nowhere;
 
 impl Sink for Nowhere {
+    ghost use Rattle.std.proofs.Common.{rules};
     ghost use Rattle.std.specs.Prelude.{None};
 
     ghost taken = { λ _. None };
@@ -20,4 +21,10 @@ impl Sink for Nowhere {
     fn write(&mut self, piece: &[u8]) -> Result<usize, Failed> {
         Ok(piece.len())
     }
+
+    fn hand_on(&mut self) -> Result<(), Failed> {
+        Ok(())
+    }
+
+    ghost unsure = { Prim.search rules };
 }

@@ -1,17 +1,18 @@
 //! A session that is read to its end.
 
-ghost use Rattle.std.specs.Prelude.{◌≡◌, ◌≢◌, ◌≤◌, ◌-◌, ℕ, Bool, false, [], ◌++◌, IfOk};
+ghost use Rattle.std.specs.Prelude.{◌≡◌, ◌≢◌, ◌⊎◌, ◌<◌, ◌≤◌, ◌-◌, ℕ, Bool, length, true, false, [], ◌++◌, IfOk, OnOk, OnErr};
 ghost use Rattle.smil_outside.specs.Faults.{HasRisen};
 ghost use Rattle.smil_outside.specs.ReaderState.{fresh_reading};
 ghost use Rattle.smil_top.specs.Cut.{CutLines, cut_of, unended};
 ghost use Rattle.smil_top.specs.Transcript.{TranscriptState, untold};
 ghost use Rattle.smil_top.specs.Evaluations.{AreEvaluated};
-ghost use Rattle.smil_top.specs.Running.{Ends, HasEvaluated, IsRunning, Ran, RanCounted};
+ghost use Rattle.smil_top.specs.Running.{Ends, HasEvaluated, IsRunning, Ran, RanCounted, text_of};
 
+use super::answer::Answer;
 use super::run::{NumberedLine, Run};
 use super::status::Status;
 use smil_interval::Steps;
-use smil_outside::{Line, LineReader, Sink, Source};
+use smil_outside::{Failed, Line, LineReader, Sink, Source};
 use std::alloc::{AllocError, Global};
 use std::sync::ledger::Ledger;
 
@@ -49,7 +50,8 @@ impl Opening {
 }
 
 impl Run {
-    /// Reads and answers to the end of the input, or up to a fault.
+    /// Reads and answers to the end of the input, or up to a fault. What was answered is handed on
+    /// before a line is waited for: where no whole line has come that isn't answered yet.
     pub fn answer_all<S: Source, K: Sink, L: Ledger>(
         &mut self,
         mut reader: LineReader,
@@ -73,7 +75,11 @@ impl Run {
             → RanCounted checks result self.new (S.rest source.old) (S.rest source.new)
             (K.taken sink.old) (K.taken sink.new) (K.sure_room sink.old) (steps.new - steps.old) }
     {
+        let mut has_told = false;
         'lines: loop {
+            let Ok(()) = hand_on_before(has_told, &reader, sink) else {
+                return Status::WriteFault;
+            };
             let text = match reader.next(source) {
                 Line::Bytes => Some(reader.bytes()),
                 Line::LongLine => None,
@@ -86,11 +92,27 @@ impl Run {
             if self.line(&line, sink, steps).is_err() {
                 return Status::WriteFault;
             }
+            has_told = tells(has_told, &self.answer);
         }
     }
 }
 
-// Answers a load that hasn't ended, and gives the status.
+// Hands on what was told, if anything was, where no whole line has come that isn't answered.
+fn hand_on_before<K: Sink>(has_told: bool, reader: &LineReader, sink: &mut K) -> Result<(), Failed>
+    ensures bytes { OnOk result (K.taken sink.new ≡ K.taken sink.old) }
+    ensures room { OnOk result (K.sure_room sink.old ≤ K.sure_room sink.new) }
+    ensures kept { OnOk result (K.faults sink.new ≡ K.faults sink.old) }
+    ensures cause { OnErr result (HasRisen (K.faults sink.old) (K.faults sink.new)) }
+    ensures err { OnErr result ((has_told ≡ true) × (K.keeps_back ≡ true)) }
+{
+    if has_told && !reader.has_line() {
+        sink.hand_on()
+    } else {
+        Ok(())
+    }
+}
+
+// Answers a load that hasn't ended, has that handed on, and gives the status.
 fn end<K: Sink>(run: &mut Run, sink: &mut K) -> Status
     ensures ends { (checks : Bool) (cut : CutLines) (told : TranscriptState)
         → IsRunning checks run.old cut told
@@ -105,7 +127,32 @@ fn end<K: Sink>(run: &mut Run, sink: &mut K) -> Status
         → AreEvaluated result (cut.whole ++ unended cut.«open») (now - start) }
 {
     match run.end(sink) {
-        Ok(()) => run.counts.status(),
+        Ok(()) => match hand_on_text(&run.answer, sink) {
+            Ok(()) => run.counts.status(),
+            Err(_) => Status::WriteFault,
+        },
         Err(_) => Status::WriteFault,
+    }
+}
+
+// Whether something was told before or is told by an answer.
+fn tells(has_told: bool, answer: &Answer) -> bool
+    ensures { result ≡ true → (has_told ≡ true) ⊎ (0 < length (text_of answer.now)) }
+{
+    has_told || answer.has_text()
+}
+
+// Hands on an answer, if it has a text.
+fn hand_on_text<K: Sink>(answer: &Answer, sink: &mut K) -> Result<(), Failed>
+    ensures bytes { OnOk result (K.taken sink.new ≡ K.taken sink.old) }
+    ensures room { OnOk result (K.sure_room sink.old ≤ K.sure_room sink.new) }
+    ensures kept { OnOk result (K.faults sink.new ≡ K.faults sink.old) }
+    ensures cause { OnErr result (HasRisen (K.faults sink.old) (K.faults sink.new)) }
+    ensures err { OnErr result ((0 < length (text_of answer.now)) × (K.keeps_back ≡ true)) }
+{
+    if answer.has_text() {
+        sink.hand_on()
+    } else {
+        Ok(())
     }
 }

@@ -14,7 +14,7 @@ use super::reading::Opening;
 use super::status::Status;
 use smil_interval::Steps;
 use smil_model::WordList;
-use smil_outside::{Sink, Source, write_all};
+use smil_outside::{Sink, Source, write_out};
 use smil_words::{Mode, read_words};
 use std::alloc::Global;
 use std::sync::ledger::Ledger;
@@ -48,8 +48,8 @@ struct Setup {
 /// was written. `Memory` also comes where there is none to begin with, and then nothing was read
 /// and nothing written; and with `gen N` wherever memory runs out, and then nothing was written.
 /// With `audit` it is `Clean` exactly with `yes`, `Refused` with `no` or a fault, and `Memory`
-/// where memory ran out, which is written at line 1; where a read fails or the input is too long
-/// nothing is written.
+/// where memory ran out that was taken, which is written at line 1; where a read fails or the input
+/// is too long nothing is written.
 ///
 /// Where `run` answers `Clean` or `Refused` and no order was refused as `DiaryFull`, the count of
 /// evaluations rises by at least the sum of the least numbers of the orders, and by at most the sum
@@ -107,7 +107,7 @@ fn explain<K: Sink>(sink: &mut K) -> Status
     ensures cause { result ≡ Status.WriteFault → HasRisen (K.faults sink.old) (K.faults sink.new) }
     ensures written { result ≢ Status.ReadFault }
 {
-    match write_all(sink, USAGE) {
+    match write_out(sink, USAGE) {
         Ok(()) => Status::Words,
         Err(_) => Status::WriteFault,
     }
@@ -135,7 +135,7 @@ fn audited<S: Source, K: Sink, L: Ledger>(
         Ok(told) => told,
         Err(status) => return status,
     };
-    match write_all(sink, told.line.slice()) {
+    match write_out(sink, told.line.slice()) {
         Ok(()) => told.status,
         Err(_) => Status::WriteFault,
     }
@@ -189,7 +189,7 @@ fn generated<K: Sink, L: Ledger>(
     let Ok(summary) = summary_of(alloc, number, steps) else {
         return Status::Memory;
     };
-    match write_all(sink, summary.text.slice()) {
+    match write_out(sink, summary.text.slice()) {
         Ok(()) => summary.status,
         Err(_) => Status::WriteFault,
     }

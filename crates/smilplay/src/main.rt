@@ -10,6 +10,9 @@ ghost use Rattle.smil_words.specs.Words.{mode_of};
 ghost use Rattle.smil_top.specs.Serving.{Serves, reads};
 ghost use Rattle.smil_top.specs.Words.{exit_number_of};
 
+mod batch;
+
+use batch::Batch;
 use smil_interval::Steps;
 use smil_model::{Bytes, WordList};
 use smil_outside::{Sink, Source, StdSink, StdSource};
@@ -22,26 +25,28 @@ use std::rt::Env;
 use std::sync::ledger::{Blank, Ledger};
 use std::{env, io};
 
-// The exit number where there is no memory for the words.
+// The exit number where there is no memory for the words or for what is kept back.
 const NO_MEMORY: u8 = 5;
 
 // The exit number where a word can't be read.
 const UNREADABLE_WORD: u8 = 7;
 
 fn main(rt: HostRuntime) -> ExitCode {
-    match words(&rt) {
-        Ok(words) => {
-            let call = Call {
-                alloc: rt.alloc(),
-                words: &words,
-            };
-            let mut source = StdSource::new(rt.reader());
-            let mut sink = StdSink::new(io::writer(&rt));
-            play::<_, _, Brand>(&call, Blank::new(1), &mut source, &mut sink)
-        }
-        Err(error) if error.kind() == ErrorKind::OutOfMemory => ExitCode::from(NO_MEMORY),
-        Err(_) => ExitCode::from(UNREADABLE_WORD),
-    }
+    let words = match words(&rt) {
+        Ok(words) => words,
+        Err(error) if error.kind() == ErrorKind::OutOfMemory => return ExitCode::from(NO_MEMORY),
+        Err(_) => return ExitCode::from(UNREADABLE_WORD),
+    };
+    let Ok(writer) = Batch::new(rt.alloc(), io::writer(&rt)) else {
+        return ExitCode::from(NO_MEMORY);
+    };
+    let call = Call {
+        alloc: rt.alloc(),
+        words: &words,
+    };
+    let mut source = StdSource::new(rt.reader());
+    let mut sink = StdSink::new(writer);
+    play::<_, _, Brand>(&call, Blank::new(1), &mut source, &mut sink)
 }
 
 // The words after the program's name.

@@ -1,14 +1,12 @@
-use Rattle.std.proofs.Common.{◌≡◌, ◌≢◌, ℕ, suc, ◌-◌, List, [], ◌∷◌, ◌++◌, Option, Some, Bor, Bool, false, refl, ap, sym, subst, ◌∙◌, arith, inl, inr}
-use Rattle.std.specs.Prelude.{IsNone, option_map}
+use Rattle.std.proofs.Common.{◌≡◌, ◌≢◌, ℕ, suc, ◌-◌, ◌<◌, List, [], ◌∷◌, ◌++◌, length, Option, Some, Bor, Bool, false, refl, ap, sym, subst, ◌∙◌, arith, inl, inr}
+use Rattle.std.specs.Prelude.{◌⊎◌, IsNone, option_map}
 use Rattle.smil_outside.specs.declared.line.Line.{Line}
 use Rattle.smil_outside.specs.declared.line.Line.TheVariants.{End, InputTooLong, ReadFault}
 use Rattle.smil_top.specs.Cut.{cut_of, with_line}
 use Rattle.smil_top.specs.Transcript.{TranscriptState, untold}
 use Rattle.smil_top.specs.Running.{Answers, IsLine, IsRunning}
 use Rattle.smil_top.proofs.EvaluationCounts.{evaluated-fresh, evaluated-next}
-use Rattle.smil_top.proofs.ServeStep.{Nexts, Nexts-of, Hands, hands-no_fault, next-line, fault-open, HasRead, HasRead-fresh, IsServing, IsServing-of, Wrote-fresh, Wrote-next, RanCounted-end, RanCounted-untold, Ran-too_long, Ran-fault, Ran-unwritten}
-use Rattle.smil_live.proofs.EditedPresentations.{where_err}
-use Rattle.smil_outside.specs.Faults.{HasRisen}
+use Rattle.smil_top.proofs.ServeStep.{Nexts, Nexts-of, Hands, hands-no_fault, next-line, fault-open, HasRead, HasRead-fresh, IsServing, IsServing-of, Wrote, Wrote-fresh, Wrote-handed, Wrote-next, told-next, some-told, Ran-unhanded, RanCounted-end, RanCounted-untold, Ran-too_long, Ran-fault, Ran-unwritten}
 use Rattle.smil_top.proofs.TextsWritten.{where_ok}
 use Rattle.smil_top.proofs.run.Run.answer_all.Given.{Over}
 use Rattle.smil_top.proofs.run.Run.answer_all.Goals as goal
@@ -27,6 +25,7 @@ lines-init g c =
     record {
       read = record { came = []; answered = []; has = subst (λ r. HasRead r rest rest [] []) (sym c.requires.fresh) (HasRead-fresh rest) };
       wrote = λ checks begun. Wrote-fresh checks c.args.self.now taken room begun;
+      some = λ checks begun told. absurd cc;
       reads = refl;
       writes = refl;
       sure = λ never. never;
@@ -45,12 +44,29 @@ module _ (g : Over) (c : After-next g) where
   open-yet : c.next.result ≡ ReadFault → IsNone c.lines.reader.closed
   open-yet is = fault-open c.lines.reader c.next.new.self (g.S.Source.rest c.lines.source) (g.S.Source.rest c.next.new.source) (nexts ReadFault is)
 
+  -- what was told is written, also where it was handed on
+  wrote : (checks : Bool) → IsRunning checks c.args.self.now (cut_of []) untold
+      → Wrote checks c.lines.self (g.K.Sink.taken c.args.sink.now) (g.K.Sink.taken c.hand_on_before.new.sink) (g.K.Sink.sure_room c.args.sink.now) (g.K.Sink.sure_room c.hand_on_before.new.sink) c.lines.invariant.read.answered
+  wrote checks begun =
+      Wrote-handed checks c.lines.self (g.K.Sink.taken c.args.sink.now) (g.K.Sink.taken c.lines.sink) (g.K.Sink.taken c.hand_on_before.new.sink) (g.K.Sink.sure_room c.args.sink.now) (g.K.Sink.sure_room c.lines.sink) (g.K.Sink.sure_room c.hand_on_before.new.sink) c.lines.invariant.read.answered
+      c.in-Ok.ensures.bytes c.in-Ok.ensures.room (c.lines.invariant.wrote checks begun)
+
   -- what stands between the lines before it and it
   serving : (checks : Bool) → IsRunning checks c.args.self.now (cut_of []) untold
-      → IsServing checks c.lines.reader c.lines.self (g.S.Source.rest c.args.source.now) (g.S.Source.rest c.lines.source) (g.K.Sink.taken c.args.sink.now) (g.K.Sink.taken c.lines.sink) (g.K.Sink.sure_room c.args.sink.now) (g.K.Sink.sure_room c.lines.sink)
+      → IsServing checks c.lines.reader c.lines.self (g.S.Source.rest c.args.source.now) (g.S.Source.rest c.lines.source) (g.K.Sink.taken c.args.sink.now) (g.K.Sink.taken c.hand_on_before.new.sink) (g.K.Sink.sure_room c.args.sink.now) (g.K.Sink.sure_room c.hand_on_before.new.sink)
   serving checks begun =
-      IsServing-of checks c.lines.reader c.lines.self (g.S.Source.rest c.args.source.now) (g.S.Source.rest c.lines.source) (g.K.Sink.taken c.args.sink.now) (g.K.Sink.taken c.lines.sink)
-      (g.K.Sink.sure_room c.args.sink.now) (g.K.Sink.sure_room c.lines.sink) c.lines.invariant.read (c.lines.invariant.wrote checks begun)
+      IsServing-of checks c.lines.reader c.lines.self (g.S.Source.rest c.args.source.now) (g.S.Source.rest c.lines.source) (g.K.Sink.taken c.args.sink.now) (g.K.Sink.taken c.hand_on_before.new.sink)
+      (g.K.Sink.sure_room c.args.sink.now) (g.K.Sink.sure_room c.hand_on_before.new.sink) c.lines.invariant.read (wrote checks begun)
+
+pub returns-in_default-clause-ran : goal.returns-in_default-clause-ran
+returns-in_default-clause-ran g c checks begun =
+    let failed = c.in_default.ensures.err in
+    let quiet = g.met.K.Sink.unsure c.args.sink.now failed.1 in
+    let here = IsServing-of checks c.lines.reader c.lines.self (g.S.Source.rest c.args.source.now) (g.S.Source.rest c.lines.source) (g.K.Sink.taken c.args.sink.now) (g.K.Sink.taken c.lines.sink) (g.K.Sink.sure_room c.args.sink.now) (g.K.Sink.sure_room c.lines.sink) c.lines.invariant.read (c.lines.invariant.wrote checks begun) in
+    Ran-unhanded here quiet.0 quiet.1 (c.lines.invariant.some checks begun failed.0)
+
+pub returns-in_default-clause-evaluated : goal.returns-in_default-clause-evaluated
+returns-in_default-clause-evaluated g c checks begun = RanCounted-untold refl (returns-in_default-clause-ran g c checks begun)
 
 pub returns-in-End-clause-evaluated : goal.returns-in-End-clause-evaluated
 unfolding serving
@@ -77,14 +93,6 @@ returns-in-ReadFault-clause-ran g c checks begun = Ran-fault (serving g (goal.at
 pub returns-in-ReadFault-clause-evaluated : goal.returns-in-ReadFault-clause-evaluated
 returns-in-ReadFault-clause-evaluated g c checks begun = RanCounted-untold refl (returns-in-ReadFault-clause-ran g c checks begun)
 
-pub returns-in-ReadFault-clause-read_cause : goal.returns-in-ReadFault-clause-read_cause
-returns-in-ReadFault-clause-read_cause g c = λ same.
-    let faults = g.S.Source.faults in
-    subst (λ (n : ℕ). HasRisen n (faults c.next.new.source)) c.lines.invariant.reads (c.next.ensures.cause c.in-ReadFault.is (open-yet g (goal.at.returns-in-ReadFault-clause-read_cause g c).After-next c.in-ReadFault.is))
-
-pub returns-in-ReadFault-clause-sure : goal.returns-in-ReadFault-clause-sure
-returns-in-ReadFault-clause-sure g c = λ never same. (c.next.ensures.sure (c.lines.invariant.sure never)).1 (open-yet g (goal.at.returns-in-ReadFault-clause-sure g c).After-next c.in-ReadFault.is) c.in-ReadFault.is
-
 module _ (g : Over) (c : After-line g) (next : Nexts c.lines.reader c.next.new.self c.next.result (g.S.Source.rest c.lines.source) (g.S.Source.rest c.next.new.source)) where
   -- a line that the reader shows, or one that is too long
   hands : Hands c.next.new.self c.next.result (shown c.match-next.text)
@@ -104,25 +112,21 @@ module _ (g : Over) (c : After-line g) (next : Nexts c.lines.reader c.next.new.s
 
   -- what it is answered
   answers : (checks : Bool) (told : TranscriptState) → IsRunning checks c.lines.self (cut_of c.lines.invariant.read.answered) told
-      → Answers checks c.line.result c.line.new.self (with_line (cut_of c.lines.invariant.read.answered) line.1) told (g.K.Sink.taken c.lines.sink) (g.K.Sink.taken c.line.new.sink) (g.K.Sink.sure_room c.lines.sink) (g.K.Sink.sure_room c.line.new.sink)
+      → Answers checks c.line.result c.line.new.self (with_line (cut_of c.lines.invariant.read.answered) line.1) told (g.K.Sink.taken c.hand_on_before.new.sink) (g.K.Sink.taken c.line.new.sink) (g.K.Sink.sure_room c.hand_on_before.new.sink) (g.K.Sink.sure_room c.line.new.sink)
   answers checks told running = c.line.ensures.answers checks (cut_of c.lines.invariant.read.answered) told line.1 running (c.number-number.ensures.value ∙ line.4) line.3
 
 pub returns-then-is_err-clause-ran : goal.returns-then-is_err-clause-ran
 returns-then-is_err-clause-ran g c checks begun =
     let at = goal.at.returns-then-is_err-clause-ran g c in
     let next = nexts g at.After-next c.next.result refl in
-    let w = c.lines.invariant.wrote checks begun in
+    let w = wrote g at.After-next checks begun in
     Ran-unwritten (g.K.Sink.taken c.args.sink.now) c.lines.invariant.read.answered (line g at.After-line next).1 (line g at.After-line next).2 w.1.written c.line.result (sym c.is_err.ensures.value ∙ c.if-is_err.true) (answers g at.After-line next checks w.0 w.1.running)
 
 pub returns-then-is_err-clause-evaluated : goal.returns-then-is_err-clause-evaluated
 returns-then-is_err-clause-evaluated g c checks begun = RanCounted-untold refl (returns-then-is_err-clause-ran g c checks begun)
 
-pub returns-then-is_err-clause-read_kept : goal.returns-then-is_err-clause-read_kept
-returns-then-is_err-clause-read_kept g c = λ not.
-    let at = goal.at.returns-then-is_err-clause-read_kept g c in
-    c.next.ensures.kept (unfailed g at.After-line (nexts g at.After-next c.next.result refl)) ∙ c.lines.invariant.reads
-
 pub lines-preserved : goal.lines-preserved
+unfolding wrote
 lines-preserved g c =
     let read = c.lines.invariant.read in
     let e = c.next.ensures in
@@ -132,14 +136,23 @@ lines-preserved g c =
     record {
       read = record { came = n.0; answered = read.answered ++ n.1 ∷ []; has = n.2 };
       wrote = λ checks begun.
-          let w = c.lines.invariant.wrote checks begun in
+          let w = wrote g at.After-next checks begun in
           Wrote-next (g.K.Sink.taken c.args.sink.now) read.answered n.1 n.2 w.1.written c.line.result (sym c.is_err.ensures.value ∙ c.if-is_err.false) (answers g at.After-line next checks w.0 w.1.running);
+      some = λ checks begun told.
+          let w = wrote g at.After-next checks begun in
+          let went = sym c.is_err.ensures.value ∙ c.if-is_err.false in
+          let a = answers g at.After-line next checks w.0 w.1.running in
+          let some_text : (0 < length w.0.text) ⊎ (0 < length a.goes.text) = elim (c.tells-has_told.ensures told) [
+            | inl before ↦ inl (c.lines.invariant.some checks begun before)
+            | inr now ↦ inr (subst (λ (t : List ℕ). 0 < length t) a.stands now)
+          ] in
+          subst (λ (t : TranscriptState). 0 < length t.text) (sym (told-next (g.K.Sink.taken c.args.sink.now) read.answered n.1 n.2 w.1.written c.line.result went a)) (some-told w.0.text a.more.text a.goes.text a.goes.text_is some_text);
       reads = e.kept (unfailed g at.After-line next) ∙ c.lines.invariant.reads;
-      writes = where_ok c.line.result _ (sym c.is_err.ensures.value ∙ c.if-is_err.false) c.line.ensures.kept ∙ c.lines.invariant.writes;
+      writes = where_ok c.line.result _ (sym c.is_err.ensures.value ∙ c.if-is_err.false) c.line.ensures.kept ∙ c.in-Ok.ensures.kept ∙ c.lines.invariant.writes;
       sure = λ never. (e.sure (c.lines.invariant.sure never)).0;
       steps = omega (arith, c.lines.invariant.steps, c.line.ensures.counted);
       evaluated = λ begun.
-          let w = c.lines.invariant.wrote false begun in
+          let w = wrote g at.After-next false begun in
           evaluated-next
           c.line.new.self.counts
           read.answered
@@ -148,9 +161,3 @@ lines-preserved g c =
           c.line.new.steps
           (c.line.ensures.evaluated (cut_of read.answered) w.0 n.1 w.1.running (c.number-number.ensures.value ∙ n.4) n.3 c.args.steps.now (c.lines.invariant.evaluated begun));
     }
-
-pub returns-then-is_err-clause-write_cause : goal.returns-then-is_err-clause-write_cause
-returns-then-is_err-clause-write_cause g c = λ same.
-    let faults = g.K.Sink.faults in
-    let failed = sym c.is_err.ensures.value ∙ c.if-is_err.true in
-    subst (λ (n : ℕ). HasRisen n (faults c.line.new.sink)) c.lines.invariant.writes (where_err c.line.result _ failed c.line.ensures.cause)
