@@ -1,6 +1,6 @@
 -- An audit, line by line, and what it reads and writes.
-use Rattle.std.proofs.Common.{◌≡◌, ◌⊎◌, ℕ, suc, ◌+◌, ◌<◌, ◌≤◌, List, [], ◌∷◌, ◌++◌, length, Option, None, Some, refl, ap, sym, subst, ◌∙◌, arith, inl, inr}
-use Rattle.std.specs.Prelude.{Result, Ok, Err}
+use Rattle.std.proofs.Common.{◌≡◌, ◌⊎◌, ℕ, suc, ◌+◌, ◌<◌, ◌≤◌, Bool, true, false, List, [], ◌∷◌, ◌++◌, length, Option, None, Some, refl, ap, sym, subst, ◌∙◌, arith, inl, inr}
+use Rattle.std.specs.Prelude.{◌≢◌, ◌||◌, Result, Ok, Err, IfErr, is_ok}
 use Rattle.std.specs.Io.KnownBytes.{Appends, Consumes, IsAtEnd}
 use Rattle.std.specs.Str.Lines.{lines}
 use Rattle.std.proofs.KnownBytes.{Appends-nil, Consumes-nil}
@@ -12,11 +12,12 @@ use Rattle.smil_outside.specs.ReaderState.{ReaderState}
 use Rattle.smil_words.specs.declared.mode.Mode.TheVariants as mode
 use Rattle.smil_top.specs.declared.audit.AuditInput.{AuditInput}
 use Rattle.smil_top.specs.declared.audit.Told.{Told}
+use Rattle.smil_top.specs.declared.audit.WholeInput.{WholeInput}
 use Rattle.smil_top.specs.declared.fault.Fault.{Fault}
 use Rattle.smil_top.specs.declared.status.Status.{Status}
 use Rattle.smil_top.specs.declared.status.Status.TheVariants as status
-use Rattle.smil_top.specs.Auditing.{ReadsAs, Tells, TellsOf, Verdict, audit_input, audit_lines, audit_of, audit_status_by, audit_text_by, memory_line, no_memory, read_on, told_by, verdict_status}
-use Rattle.smil_top.specs.Serving.{Audited, Audits, IsPart, IsWholeAudit, Serves, StopsAudit, StopsBy}
+use Rattle.smil_top.specs.Auditing.{ReadsAs, Tells, TellsOf, Verdict, audit_input, audit_lines, audit_of, audit_status_by, audit_text_by, input_takes, lines_take, memory_line, no_memory, read_on, reading_takes, takes_memory, told_by, verdict_status}
+use Rattle.smil_top.specs.Serving.{Audited, Audits, IsPart, IsWholeAudit, IsWholeInput, Serves, StopsAudit, StopsBy}
 use Rattle.smil_top.proofs.ServeStep.{Nexts}
 
 -- ---- lines
@@ -34,6 +35,31 @@ more_read answered line number is =
     let e : suc (0 + length answered) ≡ number = omega (arith, is) in
     one_more 0 (audit_input []) answered line ∙ ap (λ n. read_on n line (audit_input answered)) e
 
+-- ---- for which lines memory is taken
+
+or-left : (a b : Bool) → a ≡ true → (a || b) ≡ true
+or-left true b e = refl
+or-left false b e = absurd cc
+
+or-assoc : (a b d : Bool) → (a || (b || d)) ≡ ((a || b) || d)
+or-assoc true b d = refl
+or-assoc false b d = refl
+
+or-false : (a : Bool) → (a || false) ≡ a
+or-false true = refl
+or-false false = refl
+
+one_takes : (count : ℕ) (reading : Result AuditInput Fault) (xs : List (List ℕ)) (line : List ℕ) → lines_take count reading (xs ++ line ∷ []) ≡ (lines_take count reading xs || reading_takes (audit_lines count reading xs) line)
+one_takes count reading [] line = or-false (reading_takes reading line)
+one_takes count reading (x ∷ xs) line =
+    let on : Result AuditInput Fault = read_on (suc count) x reading in
+    ap (λ b. reading_takes reading x || b) (one_takes (suc count) on xs line)
+    ∙ or-assoc (reading_takes reading x) (lines_take (suc count) on xs) (reading_takes (audit_lines (suc count) on xs) line)
+
+-- for the lines with one more
+pub more_takes : (answered : List (List ℕ)) (line : List ℕ) → input_takes (answered ++ line ∷ []) ≡ (input_takes answered || reading_takes (audit_input answered) line)
+more_takes answered line = one_takes 0 (audit_input []) answered line
+
 -- the end of the input is no line
 pub end-number : (old new : ReaderState) (rest after : Option (List ℕ)) → Nexts old new End rest after → new.number ≡ old.number
 end-number old new rest after (inl (is_open, reads)) = omega (arith, reads.numbered)
@@ -41,14 +67,32 @@ end-number old new rest after (inr (closed, is, same, stays)) = ap (λ (r : Read
 
 -- ---- what is told
 
+told-surely : (told : Told) (takes : Bool) (answer : Result Verdict Fault) → TellsOf false told answer → TellsOf takes told answer
+told-surely told takes answer (inl (never, tells)) = absurd cc
+told-surely told takes answer (inr tells) = inr tells
+
 -- the first fault, or that memory ran out
-pub told-fault : (told : Told) (count : ℕ) (said reading : Result AuditInput Fault) (fault : Fault) → said ≡ Err fault → ReadsAs said reading → TellsOf told (Err fault) → (fault.refusal ≡ Memory → Tells told memory_line status.Memory) → TellsOf told (told_by count reading)
-told-fault told count said reading fault is (inl none) tells memory =
+pub told-fault : (told : Told) (count : ℕ) (takes : Bool) (said reading : Result AuditInput Fault) (fault : Fault) → said ≡ Err fault → ReadsAs takes said reading → (fault.refusal ≢ Memory → TellsOf false told (Err fault)) → (fault.refusal ≡ Memory → Tells told memory_line status.Memory) → TellsOf (takes || is_ok (told_by count reading)) told (told_by count reading)
+told-fault told count takes said reading fault is (inl (taken, none)) tells memory =
     let same : Err fault ≡ Err no_memory = sym is ∙ none in
     let one : fault ≡ no_memory = cc in
-    inl (memory (ap (λ (f : Fault). f.refusal) one))
-told-fault told count said reading fault is (inr same) tells memory =
-    subst (λ r. TellsOf told (told_by count r)) (sym (same ∙ is)) tells
+    inl (or-left takes (is_ok (told_by count reading)) taken, memory (ap (λ (f : Fault). f.refusal) one))
+told-fault told count takes said reading fault is (inr (same, other)) tells memory =
+    told-surely told (takes || is_ok (told_by count reading)) (told_by count reading)
+    (subst (λ r. TellsOf false told (told_by count r)) (sym (same ∙ is))
+    (tells (subst (λ (r : Result AuditInput Fault). IfErr r (λ fault. fault.refusal ≢ Memory)) is other)))
+
+-- what is told of such an input, by its own lines
+pub told-whole : {before after : Option (List ℕ)} (told : Told) (whole : WholeInput) → IsWholeInput whole before after → ((reading : Result AuditInput Fault) (takes : Bool) → ReadsAs takes whole.said reading → TellsOf (takes || is_ok (told_by whole.lines reading)) told (told_by whole.lines reading)) → Audited told before after
+told-whole told whole input tells = record {
+  came = input.came;
+  read = input.read;
+  at_end = input.at_end;
+  within = input.within;
+  tells =
+      subst (λ n. TellsOf (input_takes (lines input.came) || is_ok (told_by n (audit_input (lines input.came)))) told (told_by n (audit_input (lines input.came)))) input.lines
+      (tells (audit_input (lines input.came)) (input_takes (lines input.came)) input.said);
+}
 
 -- ---- what was read and written
 
@@ -97,8 +141,8 @@ Serves-told {told} {before} {after} taken_before taken_after room audited writte
     whole (Ok verdict) is line = by_wrong verdict.wrong (ap audit_status_by is) line
     whole (Err fault) is line = (audited.at_end, ends status.Refused (ap audit_status_by is) line)
 
-    by : TellsOf told (audit_of (lines audited.came)) → Audits told.status after audited.came told.line room
-    by (inl tells) = subst (λ s. Audits s after audited.came told.line room) (sym tells.status_is) (inr (audited.at_end, audited.within, tells.line_is))
+    by : TellsOf (takes_memory (lines audited.came)) told (audit_of (lines audited.came)) → Audits told.status after audited.came told.line room
+    by (inl (taken, tells)) = subst (λ s. Audits s after audited.came told.line room) (sym tells.status_is) (inr (audited.at_end, audited.within, taken, tells.line_is))
     by (inr tells) = subst (λ s. Audits s after audited.came told.line room) (sym tells.status_is) (whole (audit_of (lines audited.came)) refl tells.line_is)
 
 -- a part of it was written
@@ -111,6 +155,6 @@ Serves-part {told} {before} {after} taken_before taken_after room text audited w
   served = (audited.at_end, audited.within, by audited.tells);
 }
   where
-    by : TellsOf told (audit_of (lines audited.came)) → IsPart text (audit_text_by (audit_of (lines audited.came))) room ⊎ IsPart text memory_line room
-    by (inl tells) = inr (subst (λ line. IsPart text line room) tells.line_is part)
+    by : TellsOf (takes_memory (lines audited.came)) told (audit_of (lines audited.came)) → IsPart text (audit_text_by (audit_of (lines audited.came))) room ⊎ ((takes_memory (lines audited.came) ≡ true) × IsPart text memory_line room)
+    by (inl (taken, tells)) = inr (taken, subst (λ line. IsPart text line room) tells.line_is part)
     by (inr tells) = inl (subst (λ line. IsPart text line room) tells.line_is part)

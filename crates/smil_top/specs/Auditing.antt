@@ -1,5 +1,5 @@
 -- The answer of an audit to its input: the first fault of a line, or the verdict on the diary.
-use Rattle.std.specs.Prelude.{◌≡◌, ◌⊎◌, ℕ, suc, ℤ, nat_abs, ◌≤◌, List, [], ◌∷◌, ◌++◌, length, true, ◌||◌, ◌&&◌, Option, Some, None, Result, Ok, Err, IfOk, IfSome, nat_lt, max, codes, is_some, if◌then◌else◌}
+use Rattle.std.specs.Prelude.{◌≡◌, ◌≢◌, ◌⊎◌, ℕ, suc, ℤ, nat_abs, ◌≤◌, List, [], ◌∷◌, ◌++◌, length, Bool, true, false, not, ◌||◌, ◌&&◌, Option, Some, None, Result, Ok, Err, IfOk, IfErr, IfSome, nat_lt, max, codes, is_ok, is_some, if◌then◌else◌}
 use Rattle.smil_model.specs.declared.diary.Entry.{Entry}
 use Rattle.smil_model.specs.declared.diary.LogEntry.{LogEntry}
 use Rattle.smil_model.specs.declared.diary.Step.TheVariants.{Logged}
@@ -129,6 +129,37 @@ told_by count reading = reading >>= verdict_of count
 abbrev pub audit_of : List (List ℕ) → Result Verdict Fault
 audit_of lines = told_by (length lines) (audit_input lines)
 
+-- ---- for which lines memory is taken
+
+-- a line that says something: not for one that stands where a header is due and is none, and not
+-- for one behind the last moment
+abbrev pub said_takes : AuditInput → List ℕ → Bool
+said_takes (input.Outline outline) line = is_some outline.next || is_some (header_of line)
+said_takes (input.Diary diary) line = not (is_some diary.last)
+
+-- not for one that is too long, and not for one that has no answer
+abbrev pub line_takes : AuditInput → List ℕ → Bool
+line_takes before line = is_short line && not (is_blank line) && said_takes before line
+
+-- past a fault for none
+abbrev pub reading_takes : Result AuditInput Fault → List ℕ → Bool
+reading_takes (Ok before) line = line_takes before line
+reading_takes (Err fault) line = false
+
+-- whether it is taken for one of these lines, after so many lines
+abbrev pub lines_take : ℕ → Result AuditInput Fault → List (List ℕ) → Bool
+lines_take count reading [] = false
+lines_take count reading (line ∷ lines) =
+    reading_takes reading line || lines_take (suc count) (read_on (suc count) line reading) lines
+
+-- for one of the lines of an input
+abbrev pub input_takes : List (List ℕ) → Bool
+input_takes lines = lines_take 0 (Ok (input.Outline no_lines)) lines
+
+-- for an input with these lines, or for the verdict on it
+abbrev pub takes_memory : List (List ℕ) → Bool
+takes_memory lines = input_takes lines || is_ok (audit_of lines)
+
 -- ---- what is told
 
 -- `yes` and how many entries there are, or `no` and the first wrong place
@@ -177,17 +208,19 @@ abbrev pub IsSound : AuditInput → Type 0
 IsSound (input.Outline outline) = Unit {0}
 IsSound (input.Diary diary) = IsRecorded diary
 
--- what was read is this reading, or memory ran out
-abbrev pub ReadsAs : Result AuditInput Fault → Result AuditInput Fault → Type 0
-ReadsAs given reading = (given ≡ Err no_memory) ⊎ (reading ≡ given)
+-- what was read is this reading, whose fault isn't want of memory; or memory ran out that is taken
+abbrev pub ReadsAs : Bool → Result AuditInput Fault → Result AuditInput Fault → Type 0
+ReadsAs takes given reading =
+    ((takes ≡ true) × (given ≡ Err no_memory))
+    ⊎ ((reading ≡ given) × IfErr given (λ fault. fault.refusal ≢ Memory))
 
 -- what is told is this line, with this status
 pub record Tells (told : Told) (line : List ℕ) (ended : Status) : Type 0 where
   pub line_is : told.line ≡ line
   pub status_is : told.status ≡ ended
 
--- it is the answer, or that memory ran out
-abbrev pub TellsOf : Told → Result Verdict Fault → Type 0
-TellsOf told answer =
-    Tells told memory_line status.Memory
+-- it is the answer, or that memory ran out that is taken
+abbrev pub TellsOf : Bool → Told → Result Verdict Fault → Type 0
+TellsOf takes told answer =
+    ((takes ≡ true) × Tells told memory_line status.Memory)
     ⊎ Tells told (audit_text_by answer) (audit_status_by answer)

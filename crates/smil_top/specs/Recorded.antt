@@ -1,5 +1,5 @@
 -- An order that a host gives to a session by a call, and what it changes as records.
-use Rattle.std.specs.Prelude.{◌≡◌, ℕ, suc, ℤ, pos, ◌≤◌, length, List, [], Option, None, Some, Result, Ok, Err, IsSome, slice_get}
+use Rattle.std.specs.Prelude.{◌≡◌, ℕ, suc, ℤ, pos, ◌≤◌, length, List, [], Option, None, Some, Result, Ok, Err, IsSome, is_some, true, false, slice_get}
 use Rattle.smil_model.specs.declared.limits.TheConstants.{LINE_BYTES}
 use Rattle.smil_model.specs.declared.order.Order.{Order}
 use Rattle.smil_model.specs.declared.order.Refusal.{Refusal}
@@ -137,6 +137,20 @@ IsLikeLine {A} (Err (Refused refusal)) before after cut told line =
 IsLikeLine (Err OpenLoad) before after cut told line = (after ≡ before) × IsSome cut.«open»
 IsLikeLine (Err TooManyCalls) before after cut told line =
     (after ≡ before) × (last_number ≤ cut.count)
+
+-- an order was taken in: there was room for one more, no load is open, and it is counted
+abbrev pub IsTakenIn : Held → Held → Type 0
+IsTakenIn before after =
+    (suc before.number ≤ last_number) × (is_some before.run.load ≡ false)
+    × (after.number ≡ suc before.number) × (after.run.load ≡ before.run.load)
+
+-- it was taken in unless it was one too many, or a load is open, and the result says which
+abbrev pub SaysWhetherTaken : {A : Type 0} → Result A CallRefusal → Held → Held → Type 0
+SaysWhetherTaken (Ok given) before after = IsTakenIn before after
+SaysWhetherTaken (Err (Refused refusal)) before after = IsTakenIn before after
+SaysWhetherTaken (Err OpenLoad) before after =
+    (suc before.number ≤ last_number) × (is_some before.run.load ≡ true)
+SaysWhetherTaken (Err TooManyCalls) before after = before.number ≡ last_number
 
 -- where an order was carried out or refused
 abbrev pub WhereTaken : {A : Type 0} → Result A CallRefusal → Type 0 → Type 0

@@ -12,7 +12,7 @@ use Rattle.smil_top.specs.Cut.{OrderLines, orders, whole_orders}
 use Rattle.smil_top.specs.Answers.{answer_of, check_of}
 use Rattle.smil_top.specs.Transcript.{Answering, TranscriptState, IsTranscriptBy}
 use Rattle.smil_top.specs.Summary.{session_told, summary}
-use Rattle.smil_top.specs.Auditing.{ReadsAs, TellsOf, audit_input, audit_of, audit_text, audit_status, memory_line}
+use Rattle.smil_top.specs.Auditing.{ReadsAs, TellsOf, audit_input, audit_of, audit_text, audit_status, input_takes, memory_line, takes_memory}
 use Rattle.smil_top.specs.declared.audit.Told.{Told}
 use Rattle.smil_top.specs.declared.audit.WholeInput.{WholeInput}
 use Rattle.smil_top.specs.Words.{usage_line}
@@ -116,7 +116,7 @@ pub record IsWholeInput (whole : WholeInput) (before after : Option (List ℕ)) 
   pub read : Consumes before after came
   pub at_end : IsAtEnd after
   pub within : length came ≤ INPUT_BYTES
-  pub said : ReadsAs whole.said (audit_input (lines came))
+  pub said : ReadsAs (input_takes (lines came)) whole.said (audit_input (lines came))
   pub lines : whole.lines ≡ length (lines came)
 
 -- what is told of such an input
@@ -125,7 +125,7 @@ pub record Audited (told : Told) (before after : Option (List ℕ)) : Type 0 whe
   pub read : Consumes before after came
   pub at_end : IsAtEnd after
   pub within : length came ≤ INPUT_BYTES
-  pub tells : TellsOf told (audit_of (lines came))
+  pub tells : TellsOf (takes_memory (lines came)) told (audit_of (lines came))
 
 -- an audit that stops without a line: a read failed, the input is too long,
 -- or there was no memory to begin with
@@ -145,7 +145,7 @@ pub record IsWholeAudit (ended : Status) (came text : List ℕ) : Type 0 where
   pub within : length came ≤ INPUT_BYTES
 
 -- these bytes came, and this text was written: the one line, once the input was read to its end;
--- or a part of it; or that memory ran out
+-- or a part of it; or that memory ran out that is taken
 abbrev pub Audits : Status → Option (List ℕ) → List ℕ → List ℕ → ℕ → Type 0
 Audits status.Clean rest came text room = IsAtEnd rest × IsWholeAudit status.Clean came text
 Audits status.Refused rest came text room = IsAtEnd rest × IsWholeAudit status.Refused came text
@@ -153,10 +153,12 @@ Audits status.Words rest came text room = ⊥
 Audits status.ReadFault rest came text room = (length came ≤ INPUT_BYTES) × (text ≡ [])
 Audits status.WriteFault rest came text room =
     IsAtEnd rest × (length came ≤ INPUT_BYTES)
-    × (IsPart text (audit_text (lines came)) room ⊎ IsPart text memory_line room)
+    × (IsPart text (audit_text (lines came)) room
+    ⊎ ((takes_memory (lines came) ≡ true) × IsPart text memory_line room))
 Audits status.Memory rest came text room =
     ((came ≡ []) × (text ≡ []))
-    ⊎ (IsAtEnd rest × (length came ≤ INPUT_BYTES) × (text ≡ memory_line))
+    ⊎ (IsAtEnd rest × (length came ≤ INPUT_BYTES)
+    × (takes_memory (lines came) ≡ true) × (text ≡ memory_line))
 Audits status.InputTooLong rest came text room = (INPUT_BYTES < length came) × (text ≡ [])
 
 -- ---- by what the words ask for

@@ -1,13 +1,14 @@
 //! An audit: a document and its diary are read, and the verdict on the diary is told.
 
-ghost use Rattle.std.specs.Prelude.{◌≡◌, ◌≢◌, ◌≤◌, ℕ, List, length, option_map, true, Result, Ok, Err, IfOk, IfErr, IfSome, OnOk};
+ghost use Rattle.std.specs.Prelude.{◌≡◌, ◌≢◌, ◌≤◌, ℕ, Bool, List, length, option_map, true, false, not, ◌||◌, is_ok, is_some, Result, Ok, Err, IfOk, IfErr, IfSome, OnOk};
 ghost use Rattle.smil_model.specs.declared.limits.TheConstants.{LINE_BYTES};
 ghost use Rattle.smil_model.specs.document.Values.{is_clock};
 ghost use Rattle.smil_model.specs.shown.Answers.{IsRefusedBy};
-ghost use Rattle.smil_grammar.specs.Outlines.{no_lines};
+ghost use Rattle.smil_grammar.specs.Outlines.{header_of, no_lines};
 ghost use Rattle.smil_outside.specs.Faults.{HasRisen};
 ghost use Rattle.smil_outside.specs.ReaderState.{fresh_reading};
-ghost use Rattle.smil_top.specs.Auditing.{IsRecorded, IsSound, ReadsAs, Tells, TellsOf, audit_line, diary_line as diary_line_of, memory_line, outline_line as outline_line_of, read_on, recorded, said_line, told_by, unfinished as unfinished_after, unrecorded, verdict_on, with_entry};
+ghost use Rattle.smil_script.specs.Copies.{IsForCopy};
+ghost use Rattle.smil_top.specs.Auditing.{IsRecorded, IsSound, ReadsAs, Tells, TellsOf, audit_line, diary_line as diary_line_of, line_takes, memory_line, outline_line as outline_line_of, read_on, reading_takes, recorded, said_line, said_takes, told_by, unfinished as unfinished_after, unrecorded, verdict_on, with_entry};
 ghost use Rattle.smil_top.specs.Running.{IsLine};
 ghost use Rattle.smil_top.specs.Serving.{Audited, IsWholeInput, StopsAudit};
 
@@ -77,7 +78,8 @@ struct AuditOpening {
 /// refused for in the outline; `NotACommand` where a line of the diary has no reading, or stands
 /// behind the last moment; `DiaryFull` at the entry behind 1,000,000; `UnfinishedLoad` at the last
 /// line where the input ends without a last moment, at line 1 where there is no line. Where memory
-/// runs out, `Memory` is told at line 1, with `Memory`.
+/// runs out, `Memory` is told at line 1, with `Memory`; none is taken before the header, for a line
+/// that is too long, or behind the last moment but for the verdict.
 ///
 /// `Err` with the status where nothing is to be written: `ReadFault` where a read failed,
 /// `InputTooLong` where the input is longer than `INPUT_BYTES`, and `Memory` where there was none
@@ -158,9 +160,9 @@ fn with_line(
 ) -> Result<AuditInput, Fault>
     requires short { IfSome text (λ t. length t.now ≤ LINE_BYTES) }
     requires sound { IfOk said IsSound }
-    ensures read { (line : List ℕ) (reading : Result AuditInput Fault)
-        → IsLine (option_map (λ t. t.now) text.entry) line → ReadsAs said reading
-        → ReadsAs result (read_on number line reading) }
+    ensures read { (line : List ℕ) (reading : Result AuditInput Fault) (takes : Bool)
+        → IsLine (option_map (λ t. t.now) text.entry) line → ReadsAs takes said reading
+        → ReadsAs (takes || reading_takes reading line) result (read_on number line reading) }
     ensures sound { IfOk result IsSound }
 {
     match said?.with_line(alloc, text) {
@@ -185,6 +187,8 @@ impl AuditInput {
             → IfOk result (λ more. audit_line self line ≡ Ok more) }
         ensures refusal { (line : List ℕ) → IsLine (option_map (λ t. t.now) text.entry) line
             → IfErr result (IsRefusedBy (audit_line self line)) }
+        ensures copied { (line : List ℕ) → IsLine (option_map (λ t. t.now) text.entry) line
+            → IsForCopy (line_takes self line) result }
         ensures sound { IfOk result IsSound }
     {
         match text {
@@ -200,6 +204,7 @@ impl AuditInput {
         requires sound { IsSound self }
         ensures read { IfOk result (λ more. said_line self line.now ≡ Ok more) }
         ensures refusal { IfErr result (IsRefusedBy (said_line self line.now)) }
+        ensures copied { IsForCopy (said_takes self line.now) result }
         ensures sound { IfOk result IsSound }
     {
         match self {
@@ -214,6 +219,7 @@ fn outline_line(alloc: Global, mut outline: Builder, line: &[u8]) -> Result<Audi
     requires short { length line.now ≤ LINE_BYTES }
     ensures read { IfOk result (λ more. outline_line_of outline line.now ≡ Ok more) }
     ensures refusal { IfErr result (IsRefusedBy (outline_line_of outline line.now)) }
+    ensures copied { IsForCopy (is_some outline.next || is_some (header_of line.now)) result }
     ensures sound { IfOk result IsSound }
 {
     let headed = outline.version() == 2;
@@ -246,6 +252,7 @@ impl RecordedDiary {
         ensures read { IfOk result (λ more. said_line (AuditInput.Diary self) line.now ≡ Ok more) }
         ensures refusal { IfErr result
             (IsRefusedBy (said_line (AuditInput.Diary self) line.now)) }
+        ensures copied { IsForCopy (not (is_some self.last)) result }
         ensures sound { IfOk result IsSound }
     {
         self.push(alloc, line)?;
@@ -258,6 +265,7 @@ impl RecordedDiary {
         ensures ok { OnOk result (diary_line_of self.old self.old.last line.now ≡ Ok self.new) }
         ensures refusal { IfErr result
             (IsRefusedBy (diary_line_of self.old self.old.last line.now)) }
+        ensures copied { IsForCopy (not (is_some self.old.last)) result }
         ensures sound { OnOk result (IsRecorded self.new) }
     {
         if self.last.is_some() {
@@ -306,7 +314,7 @@ impl RecordedDiary {
     fn verdict<L: Ledger>(&self, alloc: Global, now: i64, steps: &mut Steps<L>) -> Told
         requires sound { IsRecorded self.now }
         requires clock { is_clock now ≡ true }
-        ensures told { TellsOf result (Ok (verdict_on self.now now)) }
+        ensures told { TellsOf true result (Ok (verdict_on self.now now)) }
         ensures counted { steps.old ≤ steps.new }
     {
         match check(alloc, &self.doc, &self.log, &self.entries, now, steps) {
@@ -327,8 +335,10 @@ impl WholeInput {
     // What is told of it.
     fn told<L: Ledger>(&self, alloc: Global, steps: &mut Steps<L>) -> Told
         requires sound { IfOk self.now.said IsSound }
-        ensures told { (reading : Result AuditInput Fault) → ReadsAs self.now.said reading
-            → TellsOf result (told_by self.now.lines reading) }
+        ensures told { (reading : Result AuditInput Fault) (takes : Bool)
+            → ReadsAs takes self.now.said reading
+            → TellsOf (takes || is_ok (told_by self.now.lines reading)) result
+            (told_by self.now.lines reading) }
         ensures counted { steps.old ≤ steps.new }
     {
         match &self.said {
@@ -343,7 +353,7 @@ impl WholeInput {
 
     // What is told where there is no last moment.
     fn unfinished(&self) -> Told
-        ensures { TellsOf result (Err (unfinished_after self.now.lines)) }
+        ensures { TellsOf false result (Err (unfinished_after self.now.lines)) }
     {
         Told::refused(&Fault {
             line: self.lines.max(1),
@@ -355,7 +365,7 @@ impl WholeInput {
 impl Told {
     // The first fault of an input, or that memory ran out.
     fn refused(fault: &Fault) -> Told
-        ensures fault { TellsOf result (Err fault.now) }
+        ensures fault { fault.now.refusal ≢ Refusal.Memory → TellsOf false result (Err fault.now) }
         ensures memory { fault.now.refusal ≡ Refusal.Memory
             → Tells result memory_line Status.Memory }
     {

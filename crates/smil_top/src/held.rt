@@ -10,7 +10,7 @@ ghost use Rattle.smil_top.specs.Answers.{close_answer};
 ghost use Rattle.smil_top.specs.GivenLoads.{IsLikeLoad, LoadsInto, load_behind, with_load};
 ghost use Rattle.smil_top.specs.Cut.{CutLines, cut_of, with_line};
 ghost use Rattle.smil_top.specs.Held.{HasTaken, IsHeld, answer_of, counts_of, last_number};
-ghost use Rattle.smil_top.specs.Recorded.{CarriesOut, ClosesIn, HasPresentations, IsLikeLine, Says, SaysClose, StandsAt, WhereTaken, element_at};
+ghost use Rattle.smil_top.specs.Recorded.{CarriesOut, ClosesIn, HasPresentations, IsLikeLine, Says, SaysClose, SaysWhetherTaken, StandsAt, WhereTaken, element_at};
 ghost use Rattle.smil_top.specs.Running.{EvaluatesOn, IsLine};
 ghost use Rattle.smil_top.specs.Session.{Session, presentation_of};
 ghost use Rattle.smil_top.specs.Transcript.{TranscriptState, untold};
@@ -139,6 +139,9 @@ impl Held {
         ensures answer { answer_of self.new ≡ answer_of self.old }
         ensures fault { StandsAt result self.old self.new }
 
+        // Whether it was taken in.
+        ensures taken { SaysWhetherTaken result self.old self.new }
+
         // How often intervals were evaluated.
         ensures counted { steps.old ≤ steps.new }
         ensures evaluated { (cut : CutLines) (told : TranscriptState) (line : List ℕ)
@@ -255,6 +258,9 @@ impl Held {
             → IsLikeLine result self.old self.new cut told line }
         ensures answer { answer_of self.new ≡ answer_of self.old }
         ensures fault { StandsAt result self.old self.new }
+
+        // Whether it was taken in.
+        ensures taken { SaysWhetherTaken result self.old self.new }
 
         // No interval was evaluated.
         ensures evaluated { (cut : CutLines) (told : TranscriptState) (line : List ℕ) (steps : ℕ)

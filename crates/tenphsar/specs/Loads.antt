@@ -9,7 +9,7 @@ use Rattle.smil_top.specs.Answers.{close_answer}
 use Rattle.smil_top.specs.Cut.{CutLines}
 use Rattle.smil_top.specs.GivenLoads.{IsLikeLoad, LoadsInto, load_behind}
 use Rattle.smil_top.specs.Held.{IsHeld}
-use Rattle.smil_top.specs.Recorded.{ClosesIn, HasPresentations, IsLikeLine, SaysClose}
+use Rattle.smil_top.specs.Recorded.{ClosesIn, HasPresentations, IsLikeLine, SaysClose, SaysWhetherTaken}
 use Rattle.smil_top.specs.Session.{Session}
 use Rattle.smil_top.specs.Transcript.{TranscriptState}
 use Rattle.tenphsar.specs.Orders.{RunsOut, code_given}
@@ -45,6 +45,7 @@ pub record Unloads (code : ℤ) (name : List ℕ) (before after : Held) : Type 0
       → ClosesIn answered before after session (close_answer session number name)
   pub like : (cut : CutLines) (told : TranscriptState) (line : List ℕ) → IsHeld before cut told
       → SaysClose line name → IsLikeLine answered before after cut told line
+  pub taken : SaysWhetherTaken answered before after
 
 -- where the last call was refused: the line and the column, 0 where there is none
 abbrev pub fault_record : Option Fault → FaultRecord

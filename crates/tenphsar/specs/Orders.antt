@@ -15,7 +15,7 @@ use Rattle.smil_top.specs.declared.held.CallRefusal.TheVariants.{OpenLoad, Refus
 use Rattle.smil_top.specs.declared.held.Held.{Held}
 use Rattle.smil_top.specs.Cut.{CutLines}
 use Rattle.smil_top.specs.Held.{IsHeld}
-use Rattle.smil_top.specs.Recorded.{CarriesOut, HasPresentations, IsLikeLine, Says}
+use Rattle.smil_top.specs.Recorded.{CarriesOut, HasPresentations, IsLikeLine, Says, SaysWhetherTaken}
 use Rattle.smil_top.specs.Session.{Session}
 use Rattle.smil_top.specs.Transcript.{TranscriptState}
 use Rattle.tenphsar.specs.Edits.{is_attribute_word}
@@ -87,6 +87,7 @@ pub record IsAnswered (code : ℤ) (name : List ℕ) (given : Order) (before aft
       → CarriesOut answered before after session name given
   pub like : (cut : CutLines) (told : TranscriptState) (line : List ℕ) → IsHeld before cut told
       → Says line name given → IsLikeLine answered before after cut told line
+  pub taken : SaysWhetherTaken answered before after
 
 -- nothing was taken in, since memory ran out before
 abbrev pub RunsOut : ℤ → Held → Held → Type 0

@@ -1,12 +1,12 @@
-use Rattle.std.proofs.Common.{◌≡◌, ℕ, suc, List, [], ◌∷◌, ◌++◌, length, Option, Some, Bor, refl, ap, sym, subst, ◌∙◌, arith, inl, inr}
-use Rattle.std.specs.Prelude.{IsNone, Result, Ok, option_map}
+use Rattle.std.proofs.Common.{◌≡◌, ℕ, suc, Bool, List, [], ◌∷◌, ◌++◌, length, Option, Some, Bor, refl, ap, sym, subst, ◌∙◌, arith, inl, inr}
+use Rattle.std.specs.Prelude.{◌||◌, IsNone, Result, Ok, option_map}
 use Rattle.smil_outside.specs.declared.line.Line.{Line}
 use Rattle.smil_outside.specs.declared.line.Line.TheVariants.{End, InputTooLong, ReadFault}
 use Rattle.smil_top.specs.declared.audit.AuditInput.{AuditInput}
 use Rattle.smil_top.specs.declared.fault.Fault.{Fault}
-use Rattle.smil_top.specs.Auditing.{IsSound, ReadsAs, audit_input}
+use Rattle.smil_top.specs.Auditing.{IsSound, ReadsAs, audit_input, input_takes, reading_takes}
 use Rattle.smil_top.specs.Running.{IsLine}
-use Rattle.smil_top.proofs.AuditLines.{end-number, more_read}
+use Rattle.smil_top.proofs.AuditLines.{end-number, more_read, more_takes}
 use Rattle.smil_top.proofs.OrderCuts.{count-cut_of}
 use Rattle.smil_top.proofs.ServeStep.{Nexts, Nexts-of, Hands, hands-no_fault, next-line, next-end, next-too_long, next-fault, fault-open, HasRead, HasRead-fresh}
 use Rattle.smil_outside.specs.Faults.{HasRisen}
@@ -26,7 +26,7 @@ lines-init g c =
     let rest = g.S.Source.rest c.args.source.now in
     record {
       read = record { came = []; answered = []; has = subst (λ r. HasRead r rest rest [] []) (sym c.requires.fresh) (HasRead-fresh rest) };
-      said = inr (ap so_far (sym c.requires.unread));
+      said = inr (ap so_far (sym c.requires.unread), tt);
       sound = subst IsSound (sym c.requires.unread) tt;
       reads = refl;
       sure = λ never. never;
@@ -53,7 +53,7 @@ returns-in-End-clause-whole g c =
       read = n.1;
       at_end = n.2;
       within = n.4;
-      said = subst (λ (xs : List (List ℕ)). ReadsAs c.lines.said (audit_input xs)) (sym n.3) c.lines.invariant.said;
+      said = subst (λ (xs : List (List ℕ)). ReadsAs (input_takes xs) c.lines.said (audit_input xs)) (sym n.3) c.lines.invariant.said;
       lines = c.number-lines.ensures.value ∙ same ∙ c.lines.invariant.read.has.has.numbered ∙ ap length (sym n.3);
     }
 
@@ -86,7 +86,9 @@ lines-preserved g c =
     let number : c.number.result ≡ suc (length held.read.answered) = omega (arith, c.number.ensures.value, n.4, count-cut_of held.read.answered) in
     record {
       read = record { came = n.0; answered = held.read.answered ++ n.1 ∷ []; has = n.2 };
-      said = subst (λ (r : Result AuditInput Fault). ReadsAs c.with_line-said.result r) (sym (more_read held.read.answered n.1 c.number.result number)) (c.with_line-said.ensures.read n.1 (audit_input held.read.answered) n.3 held.said);
+      said = subst (λ (b : Bool). ReadsAs b c.with_line-said.result (audit_input (held.read.answered ++ n.1 ∷ []))) (sym (more_takes held.read.answered n.1))
+          (subst (λ (r : Result AuditInput Fault). ReadsAs (input_takes held.read.answered || reading_takes (audit_input held.read.answered) n.1) c.with_line-said.result r) (sym (more_read held.read.answered n.1 c.number.result number))
+          (c.with_line-said.ensures.read n.1 (audit_input held.read.answered) (input_takes held.read.answered) n.3 held.said));
       sound = c.with_line-said.ensures.sound;
       reads = c.next.ensures.kept (hands-no_fault c.next.new.self c.next.result (shown c.match-next.text) hands) ∙ held.reads;
       sure = λ never. (c.next.ensures.sure (held.sure never)).0;
