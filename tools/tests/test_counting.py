@@ -1,7 +1,8 @@
 """Tests by the sources what no clause can say: that every evaluation is counted by the counter of its session.
 
-A clause says by how much a counter rises, and only `evaluate` of smil_interval can raise one. What
-it can't say is that no second counter is made, and that no interval is found without `evaluate`.
+A clause says by how much a counter rises, and only `evaluate` and `evaluate_absent` of smil_interval
+can raise one. What it can't say is that no second counter is made, and that no interval is found
+without `evaluate`.
 """
 
 import re
@@ -11,8 +12,8 @@ from calling import TOP
 
 # The library too counts the evaluations of a line by a counter made for it, since its caller is told of none.
 PROGRAMS = ("smilplay", "smil_test_sessions", "smil_test_plays", "smil_test_texts", "tenphsar")
-# What every crate may take from smil_interval, besides types: the call that counts, and a comparison of intervals.
-CALLS = {"evaluate", "is_same_interval"}
+# What every crate may take from smil_interval, besides types: the calls that count, and a comparison of intervals.
+CALLS = {"evaluate", "evaluate_absent", "is_same_interval"}
 COUNTERS = re.compile(r"\bledger::(?:\{.*)?\bBlank\b|\bBlank::new\b|\bSteps(?:::<\w+>)?::new\b|\.open::<")
 
 
@@ -54,7 +55,7 @@ class Counting(unittest.TestCase):
         self.assertEqual(set(places), {"smil_interval"}, places)
         ticks = [line for crate, path in self.files if crate == "smil_interval" for _, line in code(path)
                  if ".tick(" in line]
-        self.assertEqual([line.strip() for line in ticks], ["steps.tick();"])
+        self.assertEqual([line.strip() for line in ticks], ["steps.tick();"] * 2)
 
     def test_intervals_are_searched_by_evaluate_and_the_program_of_cases_alone(self):
         places = self.found(lambda line: taken(line) - CALLS)

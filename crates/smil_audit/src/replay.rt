@@ -89,8 +89,8 @@ impl Replay {
         ensures sound { IfOk result IsReplay }
     {
         let tree = Tree::of_doc(alloc, doc)?;
-        let known = CurrentRows::of(alloc, &tree)?;
         let past = Past::new(alloc, tree, log)?;
+        let known = CurrentRows::of(alloc, &past)?;
         Ok(Replay {
             past,
             moment: 0,

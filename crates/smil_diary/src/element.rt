@@ -16,14 +16,14 @@ use std::alloc::{AllocError, Global};
 /// interval of it: the ends and cuts while it was active.
 pub(crate) struct ElementPlaces {
     pub(crate) began: Places,
-    pub(crate) repeated: Places,
     pub(crate) ended: Places,
     pub(crate) cut: Places,
+    pub(crate) finished: Places,
+    pub(crate) repeated: Places,
     pub(crate) paused: Places,
     pub(crate) resumed: Places,
     pub(crate) deferred: Places,
     pub(crate) passed: Places,
-    pub(crate) finished: Places,
 }
 
 impl Drop for ElementPlaces {

@@ -11,24 +11,30 @@ use smil_model::Duplicate;
 use std::alloc::{AllocError, Global};
 use std::marker::Model;
 
-/// Places in a diary, in rising order.
+/// Places in a diary, in rising order. The last one stands in the list itself, those before it in
+/// memory of their own.
 #[derive(Drop)]
 pub(crate) struct Places {
-    items: Vec<u32>,
+    earlier: Vec<u32>,
+    last: Option<u32>,
 }
 
 impl Model for Places {
-    ghost use Rattle.std.specs.Prelude.{List, ℕ};
+    ghost use Rattle.std.specs.Prelude.{◌≡◌, List, [], ◌++◌, ℕ, None};
+    ghost use Rattle.std.specs.Option.{option_to_list};
 
     ghost Value = { List ℕ };
 
-    ghost view = { λ p. p.items.items };
+    ghost view = { λ p. p.earlier.items ++ option_to_list p.last };
+
+    ghost invariant = { λ p. p.last ≡ None → p.earlier.items ≡ [] };
 }
 
 impl Duplicate for Places {
     fn copy(&self) -> Result<Self, AllocError> {
         Ok(Places {
-            items: Vec::from_slice(*self.items.allocator(), &self.items)?,
+            earlier: Vec::from_slice(*self.earlier.allocator(), &self.earlier)?,
+            last: self.last,
         })
     }
 }
@@ -39,7 +45,8 @@ impl Places {
         ensures { result ≡ [] }
     {
         Places {
-            items: Vec::new(alloc),
+            earlier: Vec::new(alloc),
+            last: None,
         }
     }
 
@@ -47,15 +54,15 @@ impl Places {
     pub(crate) fn is_empty(&self) -> bool
         ensures { IsTrue result ↔ (self.now ≡ []) }
     {
-        self.items.is_empty()
+        self.last.is_none()
     }
 
     /// The last place.
     pub(crate) fn last(&self) -> Option<usize>
         ensures { result ≡ last_of self.now }
     {
-        match self.items.last() {
-            Some(place) => Some(*place as usize),
+        match self.last {
+            Some(place) => Some(place as usize),
             None => None,
         }
     }
@@ -64,9 +71,9 @@ impl Places {
     pub(crate) fn first(&self) -> Option<usize>
         ensures { result ≡ slice_get self.now 0 }
     {
-        match self.items.first() {
+        match self.earlier.first() {
             Some(place) => Some(*place as usize),
-            None => None,
+            None => self.last(),
         }
     }
 
@@ -76,8 +83,15 @@ impl Places {
         requires few { length self.now ≤ limits.DIARY_ENTRIES }
         ensures { result ≡ count_by (nat_le from) self.now }
     {
-        let before = self.items.partition_point(|place| (*place as usize) < from);
-        (self.items.len() - before) as u32
+        let before = self
+            .earlier
+            .partition_point(|place| (*place as usize) < from);
+        let later = (self.earlier.len() - before) as u32;
+        if is_from(from, self.last()) {
+            later + 1
+        } else {
+            later
+        }
     }
 
     /// Appends a place. Where memory runs out they are as before.
@@ -86,7 +100,10 @@ impl Places {
         ensures ok { OnOk result (self.new ≡ self.old ++ place ∷ []) }
         ensures err { OnErr result (self.new ≡ self.old) }
     {
-        self.items.push(place as u32)?;
+        if let Some(last) = self.last {
+            self.earlier.push(last)?;
+        }
+        self.last = Some(place as u32);
         Ok(())
     }
 
@@ -94,10 +111,10 @@ impl Places {
     pub(crate) fn pop(&mut self)
         ensures { self.new ≡ take (length self.old - 1) self.old }
     {
-        self.items.pop();
-        let len = self.items.len();
-        if len < self.items.capacity() / 4 {
-            self.items.shrink_to(2 * len);
+        self.last = self.earlier.pop();
+        let len = self.earlier.len();
+        if len < self.earlier.capacity() / 4 {
+            self.earlier.shrink_to(2 * len);
         }
     }
 }

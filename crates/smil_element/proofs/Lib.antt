@@ -16,3 +16,5 @@ pub mod ChildEnds
 pub mod KnownElements
 pub mod PresentMoment
 pub mod TimeParents
+pub mod IndexedElements
+pub mod OutcomeParts

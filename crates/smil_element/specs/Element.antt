@@ -11,11 +11,12 @@ use Rattle.smil_model.specs.diary.Clocks.{run, outer, outer_stands}
 use Rattle.smil_model.specs.interval.Durations.{Bounds, intermediate_end}
 use Rattle.smil_model.specs.interval.Current.{interval_given, simple_of}
 use Rattle.smil_model.specs.happening.Keys as model
-use Rattle.smil_model.specs.happening.Keys.{coming_begin, coming_end}
+use Rattle.smil_model.specs.happening.Keys.{coming_begin, coming_by, coming_end}
 use Rattle.smil_past.specs.declared.plays.facts.PastInterval.{PastInterval}
 use Rattle.smil_element.specs.declared.happening.change.DueChange.{DueChange}
 use Rattle.smil_element.specs.Parts.{coming_meant}
 use Rattle.smil_element.specs.declared.evaluation.Evaluation.{Evaluation}
+use Rattle.smil_element.specs.declared.outcome.Outcome.{Outcome}
 
 -- the interval and the simple duration of an element, given the intervals of the others
 pub record IsEvaluated (h : History) (intervals : ℕ → Option Interval) (now : ℤ) (e : Node)
@@ -53,3 +54,10 @@ and_coming (Some c) cs = coming_meant c ∷ cs
 
 abbrev pub both : Option DueChange → Option DueChange → List model.DueChange
 both first second = and_coming first (and_coming second [])
+
+-- the interval of the element at a place, and what comes of it, given the intervals of the others
+pub record IsOutcome (h : History) (intervals : ℕ → Option Interval) (now : ℤ) (place : ℕ)
+    (e : Node) (made : Outcome) : Type 0 where
+  pub interval : made.interval ≡ interval_given h intervals now e
+  pub comings : both made.comings.moved made.comings.repeat
+      ≡ coming_by h made.interval (simple_of h intervals e) now place e

@@ -1,5 +1,5 @@
 -- An element at a moment, with what is found of it.
-use Rattle.std.specs.Prelude.{◌≡◌, true, Some, IfSome}
+use Rattle.std.specs.Prelude.{◌≡◌, true, Some, IfSome, slice_get}
 use Rattle.smil_model.specs.declared.document.Node.{Node}
 use Rattle.smil_model.specs.document.Document.{elements, node_at, serial_of, time_parent}
 use Rattle.smil_model.specs.diary.Clocks.{outer, outer_stands, parent_start, run, stands}
@@ -14,6 +14,8 @@ use Rattle.smil_element.specs.declared.subject.Subject.{Subject}
 -- what is found of an element is right for what has happened
 pub record IsFound (s : Subject) : Type 0 where
   pub element : has_element s.present.past.now.document.nodes s.present.who ≡ true
+  pub here : slice_get (elements s.present.past.now.document.nodes) s.index
+      ≡ node_at (elements s.present.past.now.document.nodes) s.present.who
   pub moment : IsPresent s.present.past.now s.present.moment
   pub played_is : s.played.now ≡ played (history_of s.present.past.now) s.present.who
   pub row_is :

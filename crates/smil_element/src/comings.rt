@@ -165,7 +165,6 @@ fn may_repeat(subject: &Subject<'_>) -> bool
 
 // The repeat of an element that may repeat, where its iteration ends at a number and another
 // follows.
-#[inline(never)]
 fn repeat_at(subject: &Subject<'_>, place: u32, simple: Time) -> Option<DueChange>
     requires { IsFound subject.now }
     ensures { (e : AnyNode)
@@ -228,6 +227,7 @@ fn last_play(subject: &Subject<'_>) -> Play
 
 // Whether another iteration follows the one that is over at this time: a simple duration of 0 isn't
 // repeated, and none begins where the iterations or the repeat duration end.
+#[inline(never)]
 fn goes_on(bounds: &Bounds, simple: Time, play: &Play, over: i64) -> bool
     ensures { result ≡ goes_on bounds.now simple play.now over }
 {

@@ -13,7 +13,7 @@ ghost use Rattle.smil_element.specs.Element.{IsEvaluated};
 ghost use Rattle.smil_element.specs.Subject.{IsFound};
 
 use super::expected::{EvaluationInput, is_settled, pour_begins, pour_ends};
-use super::facts::{facts_of, kind_of};
+use super::facts::facts_of;
 use super::intervals::{Container, Containers, Intervals};
 use super::present::Present;
 use super::subject::Subject;
@@ -99,8 +99,7 @@ fn begins_of<'a, J: Intervals>(
 {
     if is_settled(reading.subject, Edge::Begin) {
         let subject = reading.subject;
-        let present = subject.present;
-        return Ok(present.past.instances().begins(present.who));
+        return Ok(subject.present.past.instances().begins_at(subject.index));
     }
     pour_begins(reading, times)?;
     Ok(times)
@@ -122,8 +121,7 @@ fn ends_of<'a, J: Intervals>(
 {
     if is_settled(reading.subject, Edge::End) {
         let subject = reading.subject;
-        let present = subject.present;
-        return Ok(present.past.instances().ends(present.who));
+        return Ok(subject.present.past.instances().ends_at(subject.index));
     }
     pour_ends(reading, times)?;
     Ok(times)
@@ -168,7 +166,7 @@ fn implicit_duration<J: Containers>(
         ≡ Current.implicit_duration (history_of subject.now.present.past.now)
         (J.given intervals.now) e) }
 {
-    let kind = kind_of(subject.present.past, subject.present.who);
+    let kind = subject.row.makeup().kind;
     if is_container(kind) {
         container_duration(subject, intervals, children)
     } else {

@@ -14,7 +14,6 @@ ghost use Rattle.smil_past.specs.Past.{history_of};
 ghost use Rattle.smil_element.specs.Subject.{IsFound};
 
 use super::intervals::Intervals;
-use super::present::Present;
 use super::subject::Subject;
 use smil_instance_rows::{Instant, put_in};
 use smil_model::{Edge, Time, moved};
@@ -109,8 +108,8 @@ pub fn pour_begins<J: Intervals>(
         (J.given reading.now.intervals.now) reading.now.subject.now.present.moment e) }
 {
     let subject = reading.subject;
-    let Present { past, who, .. } = subject.present;
-    refill(times, past.instances().begins(who))?;
+    let past = subject.present.past;
+    refill(times, past.instances().begins_at(subject.index))?;
     pour(reading, subject.row.side(Edge::Begin), times)
 }
 
@@ -129,8 +128,8 @@ pub fn pour_ends<J: Intervals>(
         (J.given reading.now.intervals.now) reading.now.subject.now.present.moment e) }
 {
     let subject = reading.subject;
-    let Present { past, who, .. } = subject.present;
-    refill(times, past.instances().ends(who))?;
+    let past = subject.present.past;
+    refill(times, past.instances().ends_at(subject.index))?;
     pour(reading, subject.row.side(Edge::End), times)
 }
 
@@ -191,6 +190,10 @@ fn put_some<T: Instant>(times: &mut Vec<T>, time: Option<Time>) -> Result<(), Al
         return Ok(());
     };
     match T::of_time(time) {
+        Some(value) if times.is_empty() => {
+            times.push(value)?;
+            Ok(())
+        }
         Some(value) => put_in(times, value),
         None => Ok(()),
     }

@@ -1,19 +1,18 @@
 //! An element at a moment, with what is found of it.
 
-ghost use Rattle.std.specs.Prelude.{◌≡◌, true, Some, Option, IfSome};
-ghost use Rattle.smil_model.specs.declared.document.Node.{Node as AnyNode};
-ghost use Rattle.smil_model.specs.document.Document.{elements, node_at, serial_of};
-ghost use Rattle.smil_model.specs.diary.Clocks as clocks;
-ghost use Rattle.smil_model.specs.diary.Diary as diary;
+ghost use Rattle.std.specs.Prelude.{◌≡◌, true, option_map, slice_get};
+ghost use Rattle.smil_model.specs.document.Document.{elements, node_at, time_parent};
+ghost use Rattle.smil_model.specs.diary.Clocks.{parent_start};
+ghost use Rattle.smil_model.specs.diary.Diary.{lives_under};
 ghost use Rattle.smil_model.specs.diary.Lawful.{has_element};
+ghost use Rattle.smil_past.specs.declared.makeup.ParentIndex.{ParentIndex as AnyParent};
 ghost use Rattle.smil_past.specs.Past.{IsPresent, history_of};
-ghost use Rattle.smil_past.specs.Syncs.{sync_row};
 ghost use Rattle.smil_element.specs.Subject.{IsFound};
 
-use super::facts::{parent_of, played_of};
 use super::present::Present;
+use smil_past::laws::makeups_tell_places;
 use smil_past::syncs::row::SyncbaseRow;
-use smil_past::{Past, PlayFacts};
+use smil_past::{ParentIndex, Past, PlayFacts};
 use smil_stretch::ClockReadings;
 
 /// An element at a moment, with what is found of it: what is kept of its plays, what its items and
@@ -22,6 +21,8 @@ use smil_stretch::ClockReadings;
 #[derive(Clone, Copy)]
 pub struct Subject<'a> {
     pub present: Present<'a>,
+    /// The element's index among the elements in document order, from 0.
+    pub index: usize,
     pub played: &'a PlayFacts,
     pub row: &'a SyncbaseRow,
     pub parent: Option<u32>,
@@ -32,60 +33,85 @@ pub struct Subject<'a> {
     pub clocks: ClockReadings,
 }
 
-/// An element at a moment, with what is found of it. It takes a look-up for each thing found, and
-/// no memory.
-#[inline(always)]
+/// An element at a moment, with what is found of it. It takes one look-up, and no memory.
 pub fn subject_of<'a>(present: &Present<'a>) -> Subject<'a>
     requires element { has_element present.now.past.now.document.nodes present.now.who ≡ true }
     requires moment { IsPresent present.now.past.now present.now.moment }
     ensures same { result.present ≡ present.now }
     ensures found { IsFound result }
 {
+    let index = present.past.index_of(present.who).unwrap();
+    subject_at(present, index)
+}
+
+/// The element with this index among the elements in document order, from 0, at a moment, with what
+/// is found of it. It takes no look-up, and no memory.
+#[inline(always)]
+pub fn subject_at<'a>(present: &Present<'a>, index: usize) -> Subject<'a>
+    requires element { has_element present.now.past.now.document.nodes present.now.who ≡ true }
+    requires index { slice_get (elements present.now.past.now.document.nodes) index
+        ≡ node_at (elements present.now.past.now.document.nodes) present.now.who }
+    requires moment { IsPresent present.now.past.now present.now.moment }
+    ensures same { result.present ≡ present.now }
+    ensures found { IsFound result }
+{
     let past = present.past;
-    let who = present.who;
     past.possible();
-    let parent = parent_of(past, who);
-    let above = parent_play(past, parent);
+    makeups_tell_places();
+    let played = past.plays().at(index);
+    let row = past.syncs().at(index);
+    let makeup = row.makeup();
+    let above = parent_play(past, present.who, index);
+    let clocks = past
+        .clocks()
+        .readings_at(makeup.node as usize, present.moment);
     Subject {
         present: *present,
-        played: played_of(past, who),
-        row: row_of(past, who),
-        parent,
+        index,
+        played,
+        row,
+        parent: serial_in(makeup.parent),
         alive: above.alive,
         parent_start: above.start,
-        clocks: past.clocks().readings(who, present.moment),
+        clocks,
     }
 }
 
-// What the items and the attributes of an element tell.
-fn row_of(past: &Past, who: u32) -> &SyncbaseRow
-    requires { has_element past.now.document.nodes who ≡ true }
-    ensures { (e : AnyNode) → node_at (elements past.now.document.nodes) who ≡ Some e
-        → result.now ≡ sync_row past.now.document.nodes e }
+// The serial of a time parent.
+#[inline(always)]
+fn serial_in(parent: Option<ParentIndex>) -> Option<u32>
+    ensures { result ≡ option_map (λ (p : AnyParent). p.serial) parent }
 {
-    past.syncs().row(who).unwrap()
+    match parent {
+        Some(parent) => Some(parent.serial),
+        None => None,
+    }
 }
 
-// Whether a time parent is alive, and the start of its present iteration.
+/// Whether a time parent is alive, and the start of its present iteration.
 #[derive(Clone, Copy)]
-struct ParentPlay {
-    alive: bool,
-    start: i64,
+pub(crate) struct ParentPlay {
+    pub(crate) alive: bool,
+    pub(crate) start: i64,
 }
 
-// Whether a time parent is active, or there is none, and the start of its present iteration; 0 for
-// the root, which has no time parent.
-fn parent_play(past: &Past, parent: Option<u32>) -> ParentPlay
-    requires { IfSome parent (λ p. has_element past.now.document.nodes p ≡ true) }
-    ensures alive { (node : Option AnyNode) → serial_of node ≡ parent
-        → result.alive ≡ diary.lives_under node past.now.diary }
-    ensures start { (node : Option AnyNode) → serial_of node ≡ parent
-        → result.start ≡ clocks.start_under (history_of past.now) node }
+// Whether the time parent of an element is active, or there is none, and the start of its present
+// iteration; 0 for the root, which has no time parent.
+#[inline(always)]
+pub(crate) fn parent_play(past: &Past, who: u32, index: usize) -> ParentPlay
+    requires element { has_element past.now.document.nodes who ≡ true }
+    requires index { slice_get (elements past.now.document.nodes) index
+        ≡ node_at (elements past.now.document.nodes) who }
+    ensures alive { result.alive
+        ≡ lives_under (time_parent past.now.document.nodes who) past.now.diary }
+    ensures start { result.start ≡ parent_start (history_of past.now) who }
 {
     past.possible();
-    match parent {
+    makeups_tell_places();
+    let row = past.syncs().at(index);
+    match row.makeup().parent {
         Some(parent) => {
-            let played = played_of(past, parent);
+            let played = past.plays().at(parent.index as usize);
             ParentPlay {
                 alive: played.begun.is_some(),
                 start: played.start,

@@ -7,8 +7,8 @@ ghost use Rattle.smil_graph.specs.Components as model;
 ghost use Rattle.smil_graph.specs.Components.{IsGrouping, StayKnown, mark_at, untouched, opened, met, followed, closed_from, marked_all, left, level_of, without_above, IsStep};
 
 use super::row::row_at;
+use super::short_list::ShortList;
 use super::stack::Stack;
-use smil_model::GrowingList;
 use std::alloc::{AllocError, Global};
 use std::marker::Model;
 
@@ -96,7 +96,7 @@ impl Components {
 
     /// Follows the links of the open places, and of the new ones that they lead to, until no place
     /// is open. Where memory runs out the search cannot go on.
-    pub fn follow(&mut self, rows: &[GrowingList<usize>]) -> Result<(), AllocError>
+    pub fn follow(&mut self, rows: &[ShortList<usize>]) -> Result<(), AllocError>
         requires below { StayBelow (length rows.now) rows.now }
         requires grouping { IsGrouping rows.now self.old }
         ensures grouping { OnOk result (IsGrouping rows.now self.new) }
@@ -117,7 +117,7 @@ impl Components {
     }
 
     // Follows a link of the last place on the path, or leaves the place where it has no more.
-    fn step(&mut self, rows: &[GrowingList<usize>], position: usize) -> Result<(), AllocError>
+    fn step(&mut self, rows: &[ShortList<usize>], position: usize) -> Result<(), AllocError>
         requires below { StayBelow (length rows.now) rows.now }
         requires grouping { IsGrouping rows.now self.old }
         requires last { slice_get self.old.path 0 ≡ Some position }

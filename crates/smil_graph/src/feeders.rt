@@ -14,8 +14,9 @@ ghost use Rattle.smil_model.specs.document.Valid.{IsNumberedTree, IsDistinct};
 
 use super::outline::{TimeTree, is_element, place_at, previous_in_seqs};
 use super::row::{push_all, push_one, row_at};
+use super::short_list::ShortList;
 use smil_duration::takes_implicit;
-use smil_model::{Attrs, Bytes, GrowingList, Item, Items, Node};
+use smil_model::{Attrs, Bytes, Item, Items, Node};
 use smil_tree::Tree;
 use std::alloc::{AllocError, Global};
 use std::collections::HashMap;
@@ -24,7 +25,7 @@ use std::collections::HashMap;
 // the child before each node in a seq, and the elements by their ids.
 #[derive(Drop)]
 struct Index<'a, 'b> {
-    children: &'a [GrowingList<usize>],
+    children: &'a [ShortList<usize>],
     previous: &'a [Option<usize>],
     ids: &'a HashMap<&'b [u8], usize>,
 }
@@ -35,7 +36,7 @@ pub fn feeders(
     alloc: Global,
     tree: &TimeTree<'_>,
     ids: &HashMap<&[u8], usize>,
-) -> Result<Vec<GrowingList<usize>>, AllocError>
+) -> Result<Vec<ShortList<usize>>, AllocError>
     requires numbered { IsNumberedTree tree.now.doc.now }
     requires parents { IsTable tree.now.doc.now.nodes
         (λ n. model.time_parent tree.now.doc.now.nodes n.serial) tree.now.parents.now }
@@ -60,7 +61,7 @@ fn feeder_rows(
     alloc: Global,
     tree: &Tree,
     index: &Index<'_, '_>,
-) -> Result<Vec<GrowingList<usize>>, AllocError>
+) -> Result<Vec<ShortList<usize>>, AllocError>
     ensures { IfOk result (λ rows. AreRows (length tree.now.nodes)
         (λ j i. element_follows (row index.now.children.now j) (up index.now.previous.now j)
         (λ id. get_by (λ k. bytes_eq id k.now) index.now.ids.now) (slice_get tree.now.nodes j) i)
@@ -69,7 +70,7 @@ fn feeder_rows(
     let mut rows = Vec::with_capacity(alloc, tree.len())?;
     for place in 0..tree.len() {
         let node = tree.at(place).unwrap();
-        let mut row = GrowingList::new(alloc);
+        let mut row = ShortList::new(alloc);
         push_feeders(&mut row, index, node, place)?;
         rows.push(row)?;
     }
@@ -81,9 +82,9 @@ fn feeder_rows(
 pub fn sources(
     alloc: Global,
     tree: &Tree,
-    feeders: &[GrowingList<usize>],
+    feeders: &[ShortList<usize>],
     ids: &HashMap<&[u8], usize>,
-) -> Result<Vec<GrowingList<usize>>, AllocError>
+) -> Result<Vec<ShortList<usize>>, AllocError>
     requires distinct { IsDistinct tree.now.nodes }
     requires feeders { AreRows (length tree.now.nodes) (feeds_place tree.now.nodes) feeders.now }
     requires ids { IsIndex tree.now.nodes (model.element_named tree.now.nodes)
@@ -94,7 +95,7 @@ pub fn sources(
     let mut rows = Vec::with_capacity(alloc, tree.len())?;
     for place in 0..tree.len() {
         let node = tree.at(place).unwrap();
-        let mut row = GrowingList::new(alloc);
+        let mut row = ShortList::new(alloc);
         push_all(&mut row, row_at(feeders, place))?;
         push_heard_by(&mut row, node, ids, place)?;
         rows.push(row)?;
@@ -105,7 +106,7 @@ pub fn sources(
 // Appends the places of those from which the times of the element at a place follow; nothing for a
 // priorityClass.
 fn push_feeders(
-    row: &mut GrowingList<usize>,
+    row: &mut ShortList<usize>,
     index: &Index<'_, '_>,
     node: &Node,
     place: usize,
@@ -127,7 +128,7 @@ fn push_feeders(
 
 // Appends the time children where the simple duration is implicit.
 fn push_children(
-    row: &mut GrowingList<usize>,
+    row: &mut ShortList<usize>,
     attrs: &Attrs,
     time_children: &[usize],
 ) -> Result<(), AllocError>
@@ -144,7 +145,7 @@ fn push_children(
 
 // Appends the places of those whose events an element hears; nothing for a priorityClass.
 fn push_heard_by(
-    row: &mut GrowingList<usize>,
+    row: &mut ShortList<usize>,
     node: &Node,
     ids: &HashMap<&[u8], usize>,
     place: usize,
@@ -163,7 +164,7 @@ fn push_heard_by(
 
 // Appends the places of the elements to whose begins or ends the items refer.
 fn push_named(
-    row: &mut GrowingList<usize>,
+    row: &mut ShortList<usize>,
     items: &Option<Items>,
     ids: &HashMap<&[u8], usize>,
 ) -> Result<(), AllocError>
@@ -194,7 +195,7 @@ pub fn named_by(ids: &HashMap<&[u8], usize>, item: &Item) -> Option<usize>
 // Appends the places of the elements whose events or repeats the items of the element at a place
 // mean.
 fn push_heard(
-    row: &mut GrowingList<usize>,
+    row: &mut ShortList<usize>,
     items: &Option<Items>,
     ids: &HashMap<&[u8], usize>,
     place: usize,

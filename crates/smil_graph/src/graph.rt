@@ -15,8 +15,9 @@ use super::near::near;
 use super::outline::{TimeTree, is_element_at};
 use super::row::row_at;
 use super::search::search;
+use super::short_list::ShortList;
 use super::tables::{Tables, serials_at, tables_of};
-use smil_model::{Duplicate, Edge, GrowingList, Serials};
+use smil_model::{Duplicate, Edge, Serials};
 use smil_tree::Tree;
 use std::alloc::{AllocError, Global};
 use std::marker::Model;
@@ -197,7 +198,7 @@ fn reach_at(
     tree: &Tree,
     tables: &Tables,
     place: usize,
-) -> Result<Serials, AllocError>
+) -> Result<ShortList<u32>, AllocError>
     requires tree { IsNumberedTree tree.now }
     requires tables { AreTables tree.now tables.now }
     requires element { is_element_at tree.now.nodes place ≡ true }
@@ -219,7 +220,7 @@ fn reach_from(
     tree: &Tree,
     tables: &Tables,
     starts: &[usize],
-) -> Result<Serials, AllocError>
+) -> Result<ShortList<u32>, AllocError>
     requires tree { IsNumberedTree tree.now }
     requires tables { AreTables tree.now tables.now }
     requires elements { AreElements tree.now.nodes starts.now }
@@ -242,7 +243,7 @@ fn element_place(tree: &Tree, serial: u32) -> Option<usize>
 }
 
 // The row at a place; it is empty where there is none.
-fn row_of(rows: &[Serials], place: Option<usize>) -> &[u32]
+fn row_of(rows: &[ShortList<u32>], place: Option<usize>) -> &[u32]
     ensures { result.now ≡ row_of rows.now place }
 {
     match place {
@@ -255,7 +256,7 @@ fn row_of(rows: &[Serials], place: Option<usize>) -> &[u32]
 }
 
 // Whether there is a mark at an item of the row at a place.
-fn is_marked(rows: &[GrowingList<bool>], place: Option<usize>, item: usize) -> bool
+fn is_marked(rows: &[ShortList<bool>], place: Option<usize>, item: usize) -> bool
     ensures { result ≡ marked_at rows.now place item }
 {
     match place {

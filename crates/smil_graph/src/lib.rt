@@ -14,6 +14,7 @@ mod outline;
 mod places;
 mod row;
 mod search;
+mod short_list;
 mod stack;
 mod tables;
 mod turned;

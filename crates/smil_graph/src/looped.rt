@@ -12,7 +12,8 @@ ghost use Rattle.smil_model.specs.document.Valid.{IsDistinct};
 use super::feeders::named_by;
 use super::outline::is_element;
 use super::row::number_at;
-use smil_model::{Edge, GrowingList, Items};
+use super::short_list::ShortList;
+use smil_model::{Edge, Items};
 use smil_tree::Tree;
 use std::alloc::{AllocError, Global};
 use std::collections::HashMap;
@@ -32,7 +33,7 @@ pub fn looped_marks(
     tree: &Tree,
     loops: &Loops<'_, '_>,
     side: Edge,
-) -> Result<Vec<GrowingList<bool>>, AllocError>
+) -> Result<Vec<ShortList<bool>>, AllocError>
     requires distinct { IsDistinct tree.now.nodes }
     requires ids { IsIndex tree.now.nodes (model.element_named tree.now.nodes)
         (λ id. get_by (λ k. bytes_eq id k.now) loops.now.ids.now) }
@@ -42,7 +43,7 @@ pub fn looped_marks(
     let mut rows = Vec::with_capacity(alloc, tree.len())?;
     for place in 0..tree.len() {
         let node = tree.at(place).unwrap();
-        let mut row = GrowingList::new(alloc);
+        let mut row = ShortList::new(alloc);
         if is_element(node) {
             push_marks(&mut row, node.attrs.list(side), loops, place)?;
         }
@@ -54,7 +55,7 @@ pub fn looped_marks(
 // Appends for each item whether it is a reference of the element at a place to one of the same
 // level.
 fn push_marks(
-    row: &mut GrowingList<bool>,
+    row: &mut ShortList<bool>,
     items: Option<&Items>,
     loops: &Loops<'_, '_>,
     place: usize,

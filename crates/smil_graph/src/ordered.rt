@@ -11,8 +11,8 @@ ghost use Rattle.smil_graph.specs.Ranks.{rank_of, height_under, AreHeights};
 
 use super::outline::is_element;
 use super::row::number_at;
+use super::short_list::ShortList;
 use super::tables::serials_at;
-use smil_model::Serials;
 use smil_tree::Tree;
 use std::alloc::{AllocError, Global};
 
@@ -32,7 +32,7 @@ pub fn ordered(
     tree: &Tree,
     levels: &[usize],
     time_parents: &[Option<usize>],
-) -> Result<Serials, AllocError>
+) -> Result<ShortList<u32>, AllocError>
     requires distinct { IsDistinct tree.now.nodes }
     requires levels { AreElementLevels tree.now.nodes levels.now }
     requires time_parents { IsTable tree.now.nodes (λ n. time_parent tree.now.nodes n.serial)

@@ -8,7 +8,8 @@ ghost use Rattle.smil_graph.specs.Links.{row, IsRising};
 ghost use Rattle.smil_graph.specs.Places.{up, IsTable, before, is_element_at, element_above, previous_of, AreTimeChildren};
 
 use super::row::{empty_rows, push_at, row_at};
-use smil_model::{GrowingList, Kind, Node};
+use super::short_list::ShortList;
+use smil_model::{Kind, Node};
 use smil_tree::Tree;
 use std::alloc::{AllocError, Global};
 
@@ -17,7 +18,7 @@ use std::alloc::{AllocError, Global};
 pub struct TimeTree<'a> {
     pub doc: &'a Tree,
     pub parents: &'a [Option<usize>],
-    pub children: &'a [GrowingList<usize>],
+    pub children: &'a [ShortList<usize>],
 }
 
 /// Whether a node is an element.
@@ -102,7 +103,7 @@ pub fn time_children(
     alloc: Global,
     tree: &Tree,
     time_parents: &[Option<usize>],
-) -> Result<Vec<GrowingList<usize>>, AllocError>
+) -> Result<Vec<ShortList<usize>>, AllocError>
     requires { IsTable tree.now.nodes (λ n. model.time_parent tree.now.nodes n.serial)
         time_parents.now }
     ensures count { IfOk result (λ rows. length rows.items ≡ length tree.now.nodes) }
@@ -121,7 +122,7 @@ pub fn time_children(
 
 // Appends a place to the row of another, if there is one.
 fn push_under(
-    rows: &mut Vec<GrowingList<usize>>,
+    rows: &mut Vec<ShortList<usize>>,
     parent: Option<usize>,
     place: usize,
 ) -> Result<(), AllocError>
@@ -162,7 +163,7 @@ pub fn previous_in_seqs(
 fn previous_of(
     tree: &Tree,
     parent: Option<usize>,
-    time_children: &[GrowingList<usize>],
+    time_children: &[ShortList<usize>],
     place: usize,
 ) -> Option<usize>
     requires { (q : ℕ) → IsRising (row time_children.now q) }

@@ -5,27 +5,23 @@ ghost use Rattle.smil_model.specs.reach.Reach.{is_option};
 ghost use Rattle.smil_model.specs.document.Closure.{has};
 ghost use Rattle.smil_graph.specs.Links.{row};
 
-use smil_model::GrowingList;
+use super::short_list::ShortList;
 use std::alloc::{AllocError, Global};
 
 /// So many empty rows.
-pub fn empty_rows(alloc: Global, count: usize) -> Result<Vec<GrowingList<usize>>, AllocError>
+pub fn empty_rows(alloc: Global, count: usize) -> Result<Vec<ShortList<usize>>, AllocError>
     ensures count { IfOk result (λ rows. length rows.items ≡ count) }
     ensures empty { IfOk result (λ rows. (i : ℕ) → row rows.items i ≡ []) }
 {
     let mut rows = Vec::with_capacity(alloc, count)?;
     for _ in 0..count {
-        rows.push(GrowingList::new(alloc))?;
+        rows.push(ShortList::new(alloc))?;
     }
     Ok(rows)
 }
 
 /// Appends a place to a row.
-pub fn push_at(
-    rows: &mut Vec<GrowingList<usize>>,
-    at: usize,
-    place: usize,
-) -> Result<(), AllocError>
+pub fn push_at(rows: &mut Vec<ShortList<usize>>, at: usize, place: usize) -> Result<(), AllocError>
     requires { at < length rows.old.items }
     ensures { OnOk result (rows.new.items
         ≡ slice_set rows.old.items at (row rows.old.items at ++ place ∷ [])) }
@@ -34,7 +30,7 @@ pub fn push_at(
 }
 
 /// The row at a place; it is empty past the last one.
-pub fn row_at(rows: &[GrowingList<usize>], place: usize) -> &[usize]
+pub fn row_at(rows: &[ShortList<usize>], place: usize) -> &[usize]
     ensures { result.now ≡ row rows.now place }
 {
     match rows.get(place) {
@@ -54,7 +50,7 @@ pub fn number_at(numbers: &[usize], place: usize) -> usize
 }
 
 /// Appends all of these places.
-pub fn push_all(row: &mut GrowingList<usize>, places: &[usize]) -> Result<(), AllocError>
+pub fn push_all(row: &mut ShortList<usize>, places: &[usize]) -> Result<(), AllocError>
     ensures { OnOk result ((i : ℕ) → has row.new i ≡ (has row.old i || has places.now i)) }
 {
     row.append(places)?;
@@ -62,7 +58,7 @@ pub fn push_all(row: &mut GrowingList<usize>, places: &[usize]) -> Result<(), Al
 }
 
 /// Appends a place, if there is one.
-pub fn push_one(row: &mut GrowingList<usize>, place: Option<usize>) -> Result<(), AllocError>
+pub fn push_one(row: &mut ShortList<usize>, place: Option<usize>) -> Result<(), AllocError>
     ensures { OnOk result ((i : ℕ) → has row.new i ≡ (has row.old i || is_option i place)) }
 {
     match place {

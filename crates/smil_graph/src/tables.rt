@@ -15,9 +15,10 @@ use super::looped::{Loops, looped_marks};
 use super::ordered::ordered;
 use super::outline::{TimeTree, parents, time_children, time_parents};
 use super::places::id_places;
+use super::short_list::ShortList;
 use super::turned::turned;
 use super::waiting::waiting;
-use smil_model::{Edge, GrowingList, SerialTable, Serials, first_places};
+use smil_model::{Edge, SerialTable, first_places};
 use smil_tree::Tree;
 use std::alloc::{AllocError, Global};
 use std::collections::HashMap;
@@ -25,13 +26,13 @@ use std::collections::HashMap;
 /// What a graph keeps of its document, by places in document order.
 pub struct Tables {
     pub time_parents: Vec<Option<usize>>,
-    pub time_children: Vec<GrowingList<usize>>,
-    pub begins: Vec<GrowingList<bool>>,
-    pub ends: Vec<GrowingList<bool>>,
-    pub heads: Vec<GrowingList<usize>>,
-    pub readers: Vec<Serials>,
-    pub waiting: Vec<GrowingList<usize>>,
-    pub order: Serials,
+    pub time_children: Vec<ShortList<usize>>,
+    pub begins: Vec<ShortList<bool>>,
+    pub ends: Vec<ShortList<bool>>,
+    pub heads: Vec<ShortList<usize>>,
+    pub readers: Vec<ShortList<u32>>,
+    pub waiting: Vec<ShortList<usize>>,
+    pub order: ShortList<u32>,
     pub ranks: SerialTable,
 }
 
@@ -88,7 +89,7 @@ pub fn tables_of(alloc: Global, tree: &Tree) -> Result<Tables, AllocError>
 }
 
 // A level for each node, from the rows of what each element's times follow from.
-fn element_levels(alloc: Global, feeders: &[GrowingList<usize>]) -> Result<Vec<usize>, AllocError>
+fn element_levels(alloc: Global, feeders: &[ShortList<usize>]) -> Result<Vec<usize>, AllocError>
     requires { StayBelow (length feeders.now) feeders.now }
     ensures { IfOk result (λ levels. (nodes : List Node) → IsDistinct nodes
         → AreRows (length nodes) (feeds_place nodes) feeders.now
@@ -102,9 +103,9 @@ fn element_levels(alloc: Global, feeders: &[GrowingList<usize>]) -> Result<Vec<u
 fn heads(
     alloc: Global,
     tree: &Tree,
-    feeders: &[GrowingList<usize>],
+    feeders: &[ShortList<usize>],
     ids: &HashMap<&[u8], usize>,
-) -> Result<Vec<GrowingList<usize>>, AllocError>
+) -> Result<Vec<ShortList<usize>>, AllocError>
     requires distinct { IsDistinct tree.now.nodes }
     requires feeders { AreRows (length tree.now.nodes) (feeds_place tree.now.nodes) feeders.now }
     requires ids { IsIndex tree.now.nodes (element_named tree.now.nodes)
@@ -119,8 +120,8 @@ fn heads(
 fn readers(
     alloc: Global,
     tree: &Tree,
-    heads: &[GrowingList<usize>],
-) -> Result<Vec<Serials>, AllocError>
+    heads: &[ShortList<usize>],
+) -> Result<Vec<ShortList<u32>>, AllocError>
     requires distinct { IsDistinct tree.now.nodes }
     requires heads { AreHeads tree.now.nodes heads.now }
     ensures { IfOk result (λ rows. AreReaders tree.now.nodes rows.items) }
@@ -134,10 +135,14 @@ fn readers(
 }
 
 /// The serials of the nodes at these places.
-pub fn serials_at(alloc: Global, tree: &Tree, places: &[usize]) -> Result<Serials, AllocError>
+pub fn serials_at(
+    alloc: Global,
+    tree: &Tree,
+    places: &[usize],
+) -> Result<ShortList<u32>, AllocError>
     ensures { IfOk result (λ serials. serials ≡ serials_of_places tree.now.nodes places.now) }
 {
-    let mut serials = GrowingList::new(alloc);
+    let mut serials = ShortList::new(alloc);
     for place in places {
         if let Some(node) = tree.at(*place) {
             serials.push(node.serial)?;

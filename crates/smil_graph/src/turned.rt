@@ -4,14 +4,11 @@ ghost use Rattle.std.specs.Prelude.{◌≡◌, ℕ, ◌<◌, length, OnOk, IfOk}
 ghost use Rattle.smil_graph.specs.Links.{row, StayBelow, AreBelow, that_have, is_last, IsPushedInEach};
 
 use super::row::{empty_rows, push_at};
-use smil_model::GrowingList;
+use super::short_list::ShortList;
 use std::alloc::{AllocError, Global};
 
 /// For each place the rows that have it, in rising order.
-pub fn turned(
-    alloc: Global,
-    rows: &[GrowingList<usize>],
-) -> Result<Vec<GrowingList<usize>>, AllocError>
+pub fn turned(alloc: Global, rows: &[ShortList<usize>]) -> Result<Vec<ShortList<usize>>, AllocError>
     requires { StayBelow (length rows.now) rows.now }
     ensures count { IfOk result (λ heads. length heads.items ≡ length rows.now) }
     ensures heads { IfOk result (λ heads. (i : ℕ) → i < length rows.now
@@ -27,7 +24,7 @@ pub fn turned(
 // Appends a place to each of the rows that are listed, and once to a row that is listed twice.
 // What is said of a row holds where it does not have the place before.
 fn push_in_each(
-    rows: &mut Vec<GrowingList<usize>>,
+    rows: &mut Vec<ShortList<usize>>,
     listed: &[usize],
     place: usize,
 ) -> Result<(), AllocError>

@@ -8,7 +8,8 @@ ghost use Rattle.smil_model.specs.reach.Reach.{is_key_item, is_option};
 ghost use Rattle.smil_graph.specs.Tables.{has_key_item, key_of, AreWaiting, AreWithPlace};
 
 use super::row::{empty_rows, push_at};
-use smil_model::{GrowingList, Item, Items, Node};
+use super::short_list::ShortList;
+use smil_model::{Item, Items, Node};
 use smil_tree::Tree;
 use std::alloc::{AllocError, Global};
 
@@ -16,7 +17,7 @@ use std::alloc::{AllocError, Global};
 pub const KEYS: usize = 256;
 
 /// For each key a row of the places of the elements that have an item for it.
-pub fn waiting(alloc: Global, tree: &Tree) -> Result<Vec<GrowingList<usize>>, AllocError>
+pub fn waiting(alloc: Global, tree: &Tree) -> Result<Vec<ShortList<usize>>, AllocError>
     ensures { IfOk result (λ rows. AreWaiting tree.now.nodes rows.items) }
 {
     let mut rows = empty_rows(alloc, KEYS)?;
@@ -29,11 +30,7 @@ pub fn waiting(alloc: Global, tree: &Tree) -> Result<Vec<GrowingList<usize>>, Al
 
 // Puts the place of an element into the row of each key for which it has an item; that of a
 // priorityClass into none.
-fn push_waits(
-    rows: &mut Vec<GrowingList<usize>>,
-    node: &Node,
-    place: usize,
-) -> Result<(), AllocError>
+fn push_waits(rows: &mut Vec<ShortList<usize>>, node: &Node, place: usize) -> Result<(), AllocError>
     requires { KEYS ≤ length rows.old.items }
     ensures { OnOk result (AreWithPlace (λ key. is_element node.now && has_key_item key node.now)
         place rows.old.items rows.new.items) }
@@ -47,7 +44,7 @@ fn push_waits(
 
 // Puts a place into the row of each key for which there is an item.
 fn push_keys(
-    rows: &mut Vec<GrowingList<usize>>,
+    rows: &mut Vec<ShortList<usize>>,
     items: &Option<Items>,
     place: usize,
 ) -> Result<(), AllocError>
@@ -76,7 +73,7 @@ fn key_of(item: &Item) -> Option<u8>
 
 // Puts a place into the row of a key, if there is one.
 fn push_key(
-    rows: &mut Vec<GrowingList<usize>>,
+    rows: &mut Vec<ShortList<usize>>,
     key: Option<u8>,
     place: usize,
 ) -> Result<(), AllocError>

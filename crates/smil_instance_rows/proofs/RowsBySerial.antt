@@ -1,5 +1,5 @@
 -- Where the rows of elements stand.
-use Rattle.std.proofs.Common.{◌≡◌, refl, sym, ◌∙◌, ap, ℕ, suc, zero, ◌<◌, List, [], ◌∷◌, ◌++◌, length, Option, Some, None, Bool, true, false, arith}
+use Rattle.std.proofs.Common.{◌≡◌, refl, sym, ◌∙◌, ap, ℕ, suc, zero, ◌<◌, List, [], ◌∷◌, length, Option, Some, None, Bool, true, false, arith}
 use Rattle.std.specs.Prelude.{cond, get_or, set, slice_get, ◌==◌}
 use Rattle.std.specs.Option.{option_map}
 use Rattle.smil_instance_rows.specs.Rows.{ElementTimes, rows_before}
@@ -28,28 +28,6 @@ index_kept (r ∷ rs) zero old new inside is same who =
     ap (λ s. cond (s == who) (Some 0) (option_map suc (index_in rs who))) (same ∙ ap (λ (r : ElementTimes). r.serial) is)
 index_kept (r ∷ rs) (suc i) old new inside is same who =
     ap (λ o. cond (r.serial == who) (Some 0) (option_map suc o)) (index_kept rs i old new (omega (arith, inside)) is same who)
-
--- a row at the end
-pub index_pushed : (rows : List ElementTimes) (row : ElementTimes) (who : ℕ) → index_in rows row.serial ≡ None → index_in (rows ++ row ∷ []) who ≡ cond (row.serial == who) (Some (length rows)) (index_in rows who)
-index_pushed [] row who none = refl
-index_pushed (r ∷ rs) row who none =
-    ap (λ o. cond (r.serial == who) (Some 0) (option_map suc o)) (index_pushed rs row who (in_rest (r.serial == row.serial) (index_in rs row.serial) none))
-    ∙ step (r.serial == who) (row.serial == who) refl refl
-  where
-    in_rest : (t : Bool) (o : Option ℕ) → cond t (Some 0) (option_map suc o) ≡ None → o ≡ None
-    in_rest true o q = cc
-    in_rest false None q = refl
-    in_rest false (Some place) q = cc
-
-    other : (t : Bool) → (r.serial == row.serial) ≡ t → cond t (Some 0) (option_map suc (index_in rs row.serial)) ≡ None → t ≡ false
-    other true e q = cc
-    other false e q = refl
-
-    step : (s t : Bool) → (r.serial == who) ≡ s → (row.serial == who) ≡ t → cond s (Some 0) (option_map suc (cond t (Some (length rs)) (index_in rs who))) ≡ cond t (Some (suc (length rs))) (cond s (Some 0) (option_map suc (index_in rs who)))
-    step true true p q = let no : (r.serial == row.serial) ≡ false = other (r.serial == row.serial) refl none in absurd (grind (arith, p, q, no))
-    step true false p q = refl
-    step false true p q = refl
-    step false false p q = refl
 
 -- rows of which less is kept
 pub index_before : (place : ℕ) (rows : List ElementTimes) (who : ℕ) → index_in (rows_before place rows) who ≡ index_in rows who

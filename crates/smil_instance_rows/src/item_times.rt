@@ -1,6 +1,6 @@
 //! The times that entries gave to an item, in the order of the entries.
 
-ghost use Rattle.std.specs.Prelude.{◌≡◌, List, [], ◌∷◌, ◌++◌, OnOk, OnErr, IfSome, IfNone, ◌≤◌, ◌<◌, length, false};
+ghost use Rattle.std.specs.Prelude.{◌≡◌, List, [], ◌∷◌, ◌++◌, OnOk, OnErr, IfSome, IfNone, ◌≤◌, ◌<◌, length, true, false};
 ghost use Rattle.smil_instance_rows.specs.Rows.{from_place, before_place};
 ghost use Rattle.smil_instance_rows.specs.Values.{with_value, without_value};
 ghost use Rattle.smil_instance_rows.specs.Places.{IsNotAfter, TakesFirst, TakesMore, last_alone, Replaces, IsUndone, TakesLast};
@@ -124,6 +124,13 @@ impl ItemTimes {
             Some(first) => first.place < place,
             None => false,
         }
+    }
+
+    /// Whether there are none. It takes no memory.
+    pub fn is_empty(&self) -> bool
+        ensures { result ≡ true → (self.now ≡ []) }
+    {
+        self.kept.is_empty()
     }
 
     /// Whether there is more than one. It takes no memory.

@@ -1,7 +1,7 @@
 //! The instance times of an element.
 
 ghost use Rattle.smil_instance_rows.specs.Notes.{row_with_times};
-ghost use Rattle.std.specs.Prelude.{◌≡◌, List, [], ◌∷◌, ◌++◌, OnOk, OnErr, ◌<◌, length, false};
+ghost use Rattle.std.specs.Prelude.{◌≡◌, List, [], ◌∷◌, ◌++◌, OnOk, OnErr, ◌<◌, length, true, false};
 ghost use Rattle.std.specs.Option.{option_map_or};
 ghost use Rattle.smil_model.specs.declared.times.Time.TheVariants.{At, Unresolved};
 ghost use Rattle.smil_instance_rows.specs.Rows.{from_place, row_before};
@@ -120,6 +120,17 @@ impl InstanceRow {
         } = row;
         self.begins = begins;
         self.ends = ends;
+    }
+
+    /// Whether nothing is kept for an item. It takes no memory.
+    pub fn is_idle(&self, side: Edge, item: usize) -> bool
+        requires { item < length (side_of self.now side) }
+        ensures { result ≡ true → (list_of self.now side item ≡ []) }
+    {
+        match side {
+            Edge::Begin => self.begins.is_idle(item),
+            Edge::End => self.ends.is_idle(item),
+        }
     }
 
     /// Whether an item has an instance time of a place before this one. It takes no memory.

@@ -1,11 +1,13 @@
 //! The instance times of all elements.
 
 ghost use Rattle.smil_instance_rows.specs.Notes.{times_put};
-ghost use Rattle.std.specs.Prelude.{◌≡◌, List, [], ◌∷◌, ◌++◌, OnOk, OnErr, ◌<◌, length, None, option_copied, option_map, slice_get, false, IfOk};
+ghost use Rattle.std.specs.FinMap.{get};
+ghost use Rattle.std.specs.Prelude.{◌≡◌, ℕ, List, [], ◌∷◌, ◌++◌, OnOk, OnErr, ◌<◌, length, option_copied, option_map, slice_get, false, IfOk, None, true};
 ghost use Rattle.smil_instance_rows.specs.Rows.{from_place, ElementTimes, rows_before};
 ghost use Rattle.smil_instance_rows.specs.Places.{IsNotAfter, EndsWith, last_alone};
 ghost use Rattle.smil_instance_rows.specs.Changes.{HasCell, cell_of, with_cell, row_at};
 ghost use Rattle.smil_instance_rows.specs.Readings.{index_in, row_in, begins_in, ends_in, times_in, first_from, first_after};
+ghost use Rattle.smil_instance_rows.specs.Values.{begins_of, ends_of};
 ghost use Rattle.smil_model.specs.interval.Intervals.{has_any};
 
 use super::cell::Cell;
@@ -15,12 +17,14 @@ use super::row::InstanceRow;
 use smil_model::{Duplicate, Edge, SerialTable, Time};
 use std::alloc::{AllocError, Global};
 use std::marker::Model;
+use std::rc::Rc;
 
 /// The instance times of all elements, with the indices of their rows by serial; seen as the list
 /// of the rows.
 pub struct Rows {
     rows: Vec<InstanceRow>,
-    indices: SerialTable,
+    /// A copy has the same ones.
+    indices: Rc<SerialTable>,
 }
 
 impl Drop for Rows {
@@ -43,27 +47,25 @@ impl Model for Rows {
 
     ghost view = { λ a. a.rows.items };
 
-    ghost invariant = { λ a. (who : ℕ) → get a.indices who ≡ index_in a.rows.items who };
+    ghost invariant = { λ a. (who : ℕ) → get a.indices.value who ≡ index_in a.rows.items who };
 }
 
 impl Duplicate for Rows {
     fn copy(&self) -> Result<Self, AllocError> {
         Ok(Rows {
             rows: copy_each(*self.rows.allocator(), &self.rows)?,
-            indices: self.indices.copy()?,
+            indices: self.indices.clone()?,
         })
     }
 }
 
 impl Rows {
-    /// No rows. It takes no memory.
-    pub fn new(alloc: Global) -> Rows
-        ensures { result ≡ [] }
+    /// These rows, with their indices by serial. It takes no memory.
+    pub fn of(rows: Vec<InstanceRow>, indices: Rc<SerialTable>) -> Rows
+        requires { (who : ℕ) → get indices.value who ≡ index_in rows.items who }
+        ensures { result ≡ rows.items }
     {
-        Rows {
-            rows: Vec::new(alloc),
-            indices: SerialTable::new(alloc),
-        }
+        Rows { rows, indices }
     }
 
     /// How many rows there are. It takes no memory.
@@ -71,24 +73,6 @@ impl Rows {
         ensures { result ≡ length self.now }
     {
         self.rows.len()
-    }
-
-    /// Appends the row of an element that has none. Where memory runs out all is as before.
-    pub fn push(&mut self, row: InstanceRow) -> Result<(), AllocError>
-        requires { index_in self.old row.serial ≡ None }
-        ensures ok { OnOk result (self.new ≡ self.old ++ row ∷ []) }
-        ensures err { OnErr result (self.new ≡ self.old) }
-    {
-        let serial = row.serial();
-        let index = self.len();
-        self.rows.push(row)?;
-        match self.indices.put(serial, index) {
-            Ok(_) => Ok(()),
-            Err(_) => {
-                self.rows.pop();
-                Err(AllocError)
-            }
-        }
     }
 
     /// Adds an instance time to an item. Where memory runs out all is as before.
@@ -151,6 +135,14 @@ impl Rows {
         ensures { IfOk result (λ row. row ≡ row_at self.now index) }
     {
         self.rows[index].copy()
+    }
+
+    /// Whether nothing is kept for an item. It takes no memory.
+    pub fn is_idle(&self, cell: Cell) -> bool
+        requires { HasCell self.now cell }
+        ensures { result ≡ true → (cell_of self.now cell ≡ []) }
+    {
+        self.rows[cell.row].is_idle(cell.side, cell.item)
     }
 
     /// Whether an item has an instance time of a place before this one. It takes no memory.
@@ -222,6 +214,23 @@ impl Rows {
             Some(row) => row.any_end(),
             None => false,
         }
+    }
+
+    /// The begins of the row with this index, in rising order. It takes no look-up, and no memory.
+    pub fn begins_at(&self, index: usize) -> &[i64]
+        requires { index < length self.now }
+        ensures { result.now ≡ begins_of (row_at self.now index).begins }
+    {
+        self.rows[index].begins()
+    }
+
+    /// The ends of the row with this index, in rising order, with indefinite last. It takes no
+    /// look-up, and no memory.
+    pub fn ends_at(&self, index: usize) -> &[Time]
+        requires { index < length self.now }
+        ensures { result.now ≡ ends_of (row_at self.now index).ends }
+    {
+        self.rows[index].ends()
     }
 
     /// The index of the row of an element; None exactly where it has none. It takes no memory.

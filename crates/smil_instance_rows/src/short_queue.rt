@@ -1,6 +1,6 @@
 //! A queue that keeps its first value in itself, so that it takes memory for more alone.
 
-ghost use Rattle.std.specs.Prelude.{◌≡◌, ◌-◌, [], ◌∷◌, ◌++◌, OnOk, OnErr, IfOk, length, nat_lt, slice_get};
+ghost use Rattle.std.specs.Prelude.{◌≡◌, ◌-◌, [], ◌∷◌, ◌++◌, OnOk, OnErr, IfOk, true, length, nat_lt, slice_get};
 ghost use Rattle.std.specs.Option.{option_to_list};
 
 use smil_model::Duplicate;
@@ -63,6 +63,13 @@ impl<T: Copy> ShortQueue<T> {
             Some(last) => Some(*last),
             None => self.first,
         }
+    }
+
+    /// Whether there are none. It takes no memory.
+    pub fn is_empty(&self) -> bool
+        ensures { result ≡ true → (self.now ≡ []) }
+    {
+        self.first.is_none()
     }
 
     /// Whether there is more than one. It takes no memory.

@@ -1,6 +1,6 @@
 //! The instance times of one list of items, and their values in rising order.
 
-ghost use Rattle.std.specs.Prelude.{◌≡◌, List, [], ◌∷◌, ◌++◌, OnOk, OnErr, IfOk, ◌<◌, length, get_or, set, not, find, false, map};
+ghost use Rattle.std.specs.Prelude.{◌≡◌, List, [], ◌∷◌, ◌++◌, OnOk, OnErr, IfOk, ◌<◌, length, get_or, set, not, find, true, false, map};
 ghost use Rattle.smil_instance_rows.specs.Rows.{from_place, before_place};
 ghost use Rattle.smil_instance_rows.specs.Values.{merged, with_idle};
 ghost use Rattle.smil_instance_rows.specs.Places.{IsNotAfter, EndsWith, last_alone};
@@ -17,9 +17,9 @@ use std::marker::Model;
 /// for which nothing was kept yet have no list.
 #[derive(Drop)]
 pub struct Side<T: Instant> {
+    sorted: SortedList<T>,
     items: SmallVec<ItemTimes, 1>,
     idle: usize,
-    sorted: SortedList<T>,
 }
 
 impl<T: Instant> Model for Side<T> {
@@ -36,8 +36,16 @@ impl<T: Instant> Model for Side<T> {
 
 impl<T: Instant> Duplicate for Side<T> {
     fn copy(&self) -> Result<Self, AllocError> {
+        let alloc = *self.items.allocator();
+        if self.items.is_empty() {
+            return Ok(Side {
+                items: SmallVec::new(alloc),
+                idle: self.idle,
+                sorted: SortedList::new(alloc),
+            });
+        }
         Ok(Side {
-            items: copy_items(*self.items.allocator(), &self.items)?,
+            items: copy_items(alloc, &self.items)?,
             idle: self.idle,
             sorted: self.sorted.copy()?,
         })
@@ -110,6 +118,17 @@ impl<T: Instant> Side<T> {
     {
         if let Some(list) = self.items.get_mut(item) {
             cut_later(list, &mut self.sorted, place);
+        }
+    }
+
+    /// Whether nothing is kept for an item. It takes no memory.
+    pub fn is_idle(&self, item: usize) -> bool
+        requires { item < length self.now }
+        ensures { result ≡ true → (get_or self.now item [] ≡ []) }
+    {
+        match self.items.get(item) {
+            Some(list) => list.is_empty(),
+            None => true,
         }
     }
 

@@ -10,7 +10,7 @@ use Rattle.smil_model.specs.Times.{rising, rising_times, numbers}
 use Rattle.smil_model.specs.document.Document.{elements, node_at}
 use Rattle.smil_model.specs.document.Defaults.{begin_list, end_list}
 use Rattle.smil_model.specs.diary.Diary.{History}
-use Rattle.smil_model.specs.interval.Instances.{item_times}
+use Rattle.smil_model.specs.interval.Instances.{item_times, settled_begins, settled_ends}
 use Rattle.smil_instance_rows.specs.Rows.{ElementTimes}
 use Rattle.smil_instances.specs.SettledTimes.{row_of, instances_of}
 use Rattle.smil_instance_rows.specs.Values.{times_of, begins_of, ends_of}
@@ -33,12 +33,19 @@ module _ (h : History) where
       ap (λ ts. ts ++ flat_map times_of (map (instances_of h e side) is)) (sym (kept-times h now e side i))
       ∙ ap (λ ts. item_times h (λ _. None) now e side i ++ ts) (items_kept now e side is)
 
+  -- the row of an element has its instance times
+  pub own_begins : (now : ℤ) (e : Node) → begins_of (row_of h e).begins ≡ settled_begins h now e
+  own_begins now e = ap (λ ts. rising (numbers ts)) (items_kept now e Begin (begin_list h.nodes e))
+
+  pub own_ends : (now : ℤ) (e : Node) → ends_of (row_of h e).ends ≡ settled_ends h now e
+  own_ends now e = ap rising_times (items_kept now e End (end_list e))
+
   pub rows_tell : (now : ℤ) (e : Node) → node_at (elements h.nodes) e.serial ≡ Some e → RowsTell h now e
   rows_tell now e here = record {
     begins =
         ap (λ (o : Option ElementTimes). option_map_or (λ (r : ElementTimes). begins_of r.begins) o []) (found_row e.serial (elements h.nodes) ∙ ap (option_map (row_of h)) here)
-        ∙ ap (λ ts. rising (numbers ts)) (items_kept now e Begin (begin_list h.nodes e));
+        ∙ own_begins now e;
     ends =
         ap (λ (o : Option ElementTimes). option_map_or (λ (r : ElementTimes). ends_of r.ends) o []) (found_row e.serial (elements h.nodes) ∙ ap (option_map (row_of h)) here)
-        ∙ ap rising_times (items_kept now e End (end_list e));
+        ∙ own_ends now e;
   }

@@ -23,7 +23,7 @@ pub mod NodesFound
 pub mod NextItemTimes
 pub mod NotedEntry
 pub mod EarlierHistory
-pub mod AbsentRows
+pub mod SharedPlaces
 pub mod PlacedLists
 pub mod RowReadings
 pub mod DiaryTakenIn
@@ -44,3 +44,4 @@ pub mod CellUpdates
 pub mod Going
 pub mod Early
 pub mod AlikeDependents
+pub mod IdleCells

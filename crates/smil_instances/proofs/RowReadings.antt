@@ -12,11 +12,17 @@ use Rattle.smil_model.specs.diary.Diary.{History}
 use Rattle.smil_model.specs.interval.Instances.{settled_begins, settled_ends}
 use Rattle.smil_laws.proofs.AsideDocuments.{find_true}
 use Rattle.smil_instance_rows.specs.Readings.{begins_in, ends_in, row_in, row_times, times_in}
+use Rattle.smil_instances.proofs.EmptyRows.{mapped_at}
 use Rattle.smil_instances.specs.Laws.{RowsTell, RowsTellInstances}
+use Rattle.smil_instance_rows.specs.Changes.{no_row, row_at}
 use Rattle.smil_instance_rows.specs.Values.{begins_of}
 use Rattle.smil_instance_rows.specs.Rows.{ElementTimes}
-use Rattle.smil_instances.specs.SettledTimes.{settled_rows}
-use Rattle.smil_instances.specs.Instances.{IsElementOf, SettledInstances, settled_times}
+use Rattle.smil_instances.specs.SettledTimes.{row_of, settled_rows}
+use Rattle.smil_instances.specs.Instances.{IsElementAt, IsElementOf, SettledInstances, settled_times}
+
+-- the row of the element at an index
+pub row_there : (value : SettledInstances) (index : ℕ) (h : History) (e : Node) → IsElementAt value index h e → row_at value.rows index ≡ row_of h e
+row_there value index h e is = mapped_at (row_of h) (elements h.nodes) value.rows index e no_row is.rows is.here
 
 begin_times : (o : Option ElementTimes) → option_map_or (λ (r : ElementTimes). row_times r Begin) o [] ≡ map At (option_map_or (λ (r : ElementTimes). begins_of r.begins) o [])
 begin_times None = refl

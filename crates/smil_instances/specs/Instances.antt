@@ -1,5 +1,5 @@
 -- Instance times that a diary alone gives, and what they follow from.
-use Rattle.std.specs.Prelude.{◌≡◌, ℕ, ℤ, List, map, Some}
+use Rattle.std.specs.Prelude.{◌≡◌, ℕ, ℤ, List, map, Some, slice_get}
 use Rattle.smil_model.specs.declared.times.Time.{Time}
 use Rattle.smil_model.specs.declared.times.Time.TheVariants.{At}
 use Rattle.smil_model.specs.declared.diary.Entry.{Entry}
@@ -32,6 +32,11 @@ pub record IsSettled (value : SettledInstances) (document : Document) (log : Lis
 pub record IsElementOf (value : SettledInstances) (who : ℕ) (h : History) (e : Node) : Type 0 where
   pub rows : value.rows ≡ settled_rows h
   pub known : node_at (elements h.nodes) who ≡ Some e
+
+-- and e is its element with this index
+pub record IsElementAt (value : SettledInstances) (index : ℕ) (h : History) (e : Node) : Type 0 where
+  pub rows : value.rows ≡ settled_rows h
+  pub here : slice_get (elements h.nodes) index ≡ Some e
 
 -- the begins or the ends that the diary alone gives, as times
 abbrev pub settled_times : History → ℤ → Node → Edge → List Time

@@ -33,21 +33,31 @@ pub(crate) fn adds_of(
         ≡ adds_to (history_with arrival.now.history before) y cells.now) }
 {
     adds.clear();
-    let on = subject(arrival.history.log, arrival.last_entry().step);
+    let step = arrival.last_entry().step;
+    let on = subject(arrival.history.log, step);
     for cell in cells {
-        if let Some(kept) = given_to(rows, *cell, on, arrival) {
+        if let Some(kept) = given_to(rows, *cell, on, step, arrival) {
             adds.push(Add { cell: *cell, kept })?;
         }
     }
     Ok(())
 }
 
-// What the last entry, which is on this element or on none, gives to a cell's item.
-fn given_to(rows: &Rows, cell: Cell, on: Option<u32>, arrival: &Arrival<'_>) -> Option<InstanceTime>
+// What the last entry, which has this step and is on this element or on none, gives to a cell's
+// item.
+fn given_to(
+    rows: &Rows,
+    cell: Cell,
+    on: Option<u32>,
+    step: Step,
+    arrival: &Arrival<'_>,
+) -> Option<InstanceTime>
     requires hand { HasArrived arrival.now }
     requires on { (before : List AnyEntry) (y : AnyEntry)
         → arrival.now.history.book.now ≡ before ++ y ∷ []
         → on ≡ subject_of arrival.now.history.log.now y.step }
+    requires step { (before : List AnyEntry) (y : AnyEntry)
+        → arrival.now.history.book.now ≡ before ++ y ∷ [] → step ≡ y.step }
     requires dependents { HasDependents arrival.now }
     requires rows { AreRowsOf arrival.now.history.tree.now.nodes rows.now }
     ensures { (before : List AnyEntry) (y : AnyEntry)
@@ -56,7 +66,7 @@ fn given_to(rows: &Rows, cell: Cell, on: Option<u32>, arrival: &Arrival<'_>) -> 
 {
     arrival.history.tree.valid();
     let source = arrival.dependents.source(cell);
-    if !may_give(source, on, arrival.last_entry().step) {
+    if !may_give(source, on, step) {
         return None;
     }
     let who = rows.serial_at(cell.row)?;

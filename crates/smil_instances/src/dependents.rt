@@ -9,8 +9,8 @@ use super::fill::fill;
 use super::fresh::fresh_rows;
 use super::keys::cells_by_key;
 use super::source::Source;
-use smil_instance_rows::{Cell, copy_each};
-use smil_model::{Duplicate, GrowingList};
+use smil_instance_rows::Cell;
+use smil_model::GrowingList;
 use smil_tree::Tree;
 use std::alloc::{AllocError, Global};
 use std::marker::Model;
@@ -41,16 +41,6 @@ impl Model for Dependents {
     ghost Value = { DocumentDependents };
 
     ghost view = { λ a. record { rows = a.rows.items; keys = a.keys.items } };
-}
-
-impl Duplicate for Dependents {
-    fn copy(&self) -> Result<Self, AllocError> {
-        let alloc = *self.rows.allocator();
-        Ok(Dependents {
-            rows: copy_each(alloc, &self.rows)?,
-            keys: copy_each(alloc, &self.keys)?,
-        })
-    }
 }
 
 impl Dependents {

@@ -5,8 +5,9 @@ ghost use Rattle.smil_instances.specs.Dependents.{cells_of, source_or, sources_o
 ghost use Rattle.smil_instances.specs.Spread.{with_one, without_cells};
 
 use super::source::Source;
+use smallvec::SmallVec;
 use smil_instance_rows::Cell;
-use smil_model::{Duplicate, Edge};
+use smil_model::Edge;
 use std::alloc::{AllocError, Global};
 use std::marker::Model;
 
@@ -14,10 +15,10 @@ use std::marker::Model;
 /// repeat can concern.
 #[derive(Drop)]
 pub struct DependentsRow {
-    begins: Vec<Source>,
-    ends: Vec<Source>,
-    readers: Vec<Cell>,
-    births: Vec<Cell>,
+    begins: SmallVec<Source, 1>,
+    ends: SmallVec<Source, 1>,
+    readers: SmallVec<Cell, 1>,
+    births: SmallVec<Cell, 1>,
 }
 
 impl Model for DependentsRow {
@@ -34,29 +35,21 @@ impl Model for DependentsRow {
         } };
 }
 
-impl Duplicate for DependentsRow {
-    fn copy(&self) -> Result<Self, AllocError> {
-        let alloc = *self.begins.allocator();
-        Ok(DependentsRow {
-            begins: Vec::from_slice(alloc, &self.begins)?,
-            ends: Vec::from_slice(alloc, &self.ends)?,
-            readers: Vec::from_slice(alloc, &self.readers)?,
-            births: Vec::from_slice(alloc, &self.births)?,
-        })
-    }
-}
-
 impl DependentsRow {
     /// The row of an element whose items have these sources, and which concerns no item. It takes
     /// no memory.
-    pub fn new(alloc: Global, begins: Vec<Source>, ends: Vec<Source>) -> DependentsRow
+    pub fn new(
+        alloc: Global,
+        begins: SmallVec<Source, 1>,
+        ends: SmallVec<Source, 1>,
+    ) -> DependentsRow
         ensures { result ≡ without_cells begins.items ends.items }
     {
         DependentsRow {
             begins,
             ends,
-            readers: Vec::new(alloc),
-            births: Vec::new(alloc),
+            readers: SmallVec::new(alloc),
+            births: SmallVec::new(alloc),
         }
     }
 

@@ -12,6 +12,7 @@ ghost use Rattle.smil_instances.specs.Spread.{fresh_row, fresh_rows};
 use super::dependents_row::DependentsRow;
 use super::source::Source;
 use super::sources::{Element, kind_above, sources_of};
+use smallvec::SmallVec;
 use smil_model::{Edge, Kind};
 use smil_tree::Tree;
 use std::alloc::{AllocError, Global};
@@ -80,7 +81,7 @@ fn source_by_offset(tree: &Tree, who: u32, before: Option<u32>) -> Source
 }
 
 // The sources of the items of an element's begin list.
-fn begin_sources(alloc: Global, element: &Element<'_>) -> Result<Vec<Source>, AllocError>
+fn begin_sources(alloc: Global, element: &Element<'_>) -> Result<SmallVec<Source, 1>, AllocError>
     requires known { IsSome (node_at element.now.tree.now.nodes element.now.who) }
     requires by_offset { element.now.by_offset ≡ syncbase_or source.Start End
         (previous_in_seq element.now.tree.now.nodes element.now.who) }
@@ -93,7 +94,7 @@ fn begin_sources(alloc: Global, element: &Element<'_>) -> Result<Vec<Source>, Al
     if let Some(items) = &element.tree.attrs(element.who).begin {
         return sources_of(alloc, element, items);
     }
-    let mut sources = Vec::new(alloc);
+    let mut sources = SmallVec::new(alloc);
     sources.push(begin_by_default(element))?;
     Ok(sources)
 }
@@ -112,7 +113,7 @@ fn begin_by_default(element: &Element<'_>) -> Source
 }
 
 // The sources of the items of an element's end list.
-fn end_sources(alloc: Global, element: &Element<'_>) -> Result<Vec<Source>, AllocError>
+fn end_sources(alloc: Global, element: &Element<'_>) -> Result<SmallVec<Source, 1>, AllocError>
     requires known { IsSome (node_at element.now.tree.now.nodes element.now.who) }
     requires by_offset { element.now.by_offset ≡ syncbase_or source.Start End
         (previous_in_seq element.now.tree.now.nodes element.now.who) }
@@ -123,6 +124,6 @@ fn end_sources(alloc: Global, element: &Element<'_>) -> Result<Vec<Source>, Allo
 {
     match &element.tree.attrs(element.who).end {
         Some(items) => sources_of(alloc, element, items),
-        None => Ok(Vec::new(alloc)),
+        None => Ok(SmallVec::new(alloc)),
     }
 }

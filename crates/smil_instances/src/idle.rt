@@ -6,7 +6,9 @@ ghost use Rattle.smil_model.specs.declared.document.Node.{Node as AnyNode};
 ghost use Rattle.smil_model.specs.declared.document.Edge.{Edge as AnyEdge};
 ghost use Rattle.smil_model.specs.declared.document.Edge.TheVariants as edge;
 ghost use Rattle.smil_model.specs.declared.document.Item.TheVariants as item;
-ghost use Rattle.smil_model.specs.document.Document.{Document, elements};
+ghost use Rattle.smil_model.specs.document.Document.{Document, elements, serials};
+ghost use Rattle.std.specs.FinMap.{get};
+ghost use Rattle.smil_instances.specs.Spread.{IsIndex};
 ghost use Rattle.smil_model.specs.document.Defaults.{begin_list, end_list};
 ghost use Rattle.smil_instance_rows.specs.Cells.{side_of};
 ghost use Rattle.smil_instances.specs.SettledTimes.{instances_of, row_of, settled_rows};
@@ -19,23 +21,41 @@ ghost use Rattle.smil_instances.specs.Intake.{history_of};
 use super::dependents::Dependents;
 use super::source::Source;
 use smil_instance_rows::{Cell, InstanceRow, InstanceTime, Rows};
-use smil_model::{Edge, Item, Items, Time, moved};
+use smil_model::{Edge, Item, Items, SerialTable, Time, moved};
 use smil_tree::Tree;
 use std::alloc::{AllocError, Global};
+use std::rc::Rc;
 
-/// The rows of a document to which nothing has happened yet.
+/// The rows of a document to which nothing has happened yet, with the places of its elements.
 pub(crate) fn idle_rows(
     alloc: Global,
     tree: &Tree,
     dependents: &Dependents,
+    places: Rc<SerialTable>,
 ) -> Result<Rows, AllocError>
-    requires { AreDependentsOf tree.now.nodes dependents.now }
+    requires dependents { AreDependentsOf tree.now.nodes dependents.now }
+    requires places { IsIndex (serials (elements tree.now.nodes)) (get places.value) }
     ensures { (log : List AnyLogEntry)
         → IfOk result (λ rows. rows ≡ settled_rows (history_of tree.now log [])) }
 {
     tree.valid();
+    let rows = idle_list(alloc, tree, dependents)?;
+    Ok(Rows::of(rows, places))
+}
+
+// The rows of the elements of a document to which nothing has happened yet.
+fn idle_list(
+    alloc: Global,
+    tree: &Tree,
+    dependents: &Dependents,
+) -> Result<Vec<InstanceRow>, AllocError>
+    requires { AreDependentsOf tree.now.nodes dependents.now }
+    ensures { (log : List AnyLogEntry)
+        → IfOk result (λ rows. rows.items ≡ settled_rows (history_of tree.now log [])) }
+{
+    tree.valid();
     let whos = tree.elements();
-    let mut rows = Rows::new(alloc);
+    let mut rows = Vec::with_capacity(alloc, whos.len())?;
     for (place, who) in whos.iter().enumerate() {
         let sources = ElementSources { dependents, place };
         let row = idle_row(alloc, tree, &sources, *who)?;

@@ -1,6 +1,6 @@
 //! The instance times that a diary alone gives, kept while entries are appended.
 
-ghost use Rattle.std.specs.Prelude.{◌≡◌, ℤ, List, [], ◌∷◌, ◌++◌, OnOk, OnErr, IfOk};
+ghost use Rattle.std.specs.Prelude.{◌≡◌, ◌<◌, ℤ, List, [], ◌∷◌, ◌++◌, OnOk, OnErr, IfOk, length};
 ghost use Rattle.smil_model.specs.declared.diary.Entry.{Entry as AnyEntry};
 ghost use Rattle.smil_model.specs.declared.diary.LogEntry.{LogEntry as AnyLogEntry};
 ghost use Rattle.smil_model.specs.declared.document.Node.{Node as AnyNode};
@@ -13,19 +13,23 @@ ghost use Rattle.smil_instance_rows.specs.Notes.{GoesBackTheSame, no_mark, rows_
 ghost use Rattle.smil_stretch.specs.Clocks.{IsLawfulFor};
 ghost use Rattle.smil_instances.specs.Entry.{IsAtHand};
 ghost use Rattle.smil_instances.specs.Dependents.{AreDependentsOf};
-ghost use Rattle.smil_instances.specs.Instances.{IsElementOf, IsSettled, settled_times};
+ghost use Rattle.smil_instances.specs.Instances.{IsElementAt, IsElementOf, IsSettled, settled_times};
 ghost use Rattle.smil_instances.specs.Intake.{history_with};
+ghost use Rattle.smil_instances.specs.Spread.{IsIndex};
+ghost use Rattle.smil_model.specs.document.Document.{elements, serials};
+ghost use Rattle.std.specs.FinMap.{get};
 
 use super::arrival::Arrival;
 use super::dependents::Dependents;
+use super::elements::places_of;
 use super::history::DocumentHistory;
 use super::idle::idle_rows;
 use super::intake::take_in;
 use super::laws::rows_tell_instances;
 use smil_diary::Book;
-use smil_graph::{Graph, are_alike};
+use smil_graph::are_alike;
 use smil_instance_rows::{Add, RowNotes, Rows};
-use smil_model::{Duplicate, Edge, Entry, Log, Time};
+use smil_model::{Duplicate, Edge, Entry, Log, SerialTable, Time};
 use smil_stretch::Clocks;
 use smil_tree::Tree;
 use std::alloc::{AllocError, Global};
@@ -75,29 +79,34 @@ impl Duplicate for Instances {
 }
 
 impl Instances {
-    /// The instance times of a document to which nothing has happened yet, unless memory runs out.
-    /// The graph is that of the tree. It takes memory for each element and for each item.
-    // An item names at most one element, so that the tree alone tells what each follows from.
-    pub fn new(alloc: Global, tree: &Tree, _graph: &Graph) -> Result<Instances, AllocError>
-        requires { _graph.now.nodes ≡ tree.now.nodes }
+    /// The instance times of a document to which nothing has happened yet, with the places of its
+    /// elements; unless memory runs out. It takes memory for each element and for each item.
+    pub fn new(alloc: Global, tree: &Tree, places: Rc<SerialTable>) -> Result<Instances, AllocError>
+        requires { IsIndex (serials (elements tree.now.nodes)) (get places.value) }
         ensures { (log : List AnyLogEntry)
             → IfOk result (λ value. IsSettled value tree.now log []) }
     {
         let dependents = Rc::new(alloc, Dependents::of(alloc, tree)?)?;
-        Instances::over(alloc, tree, dependents)
+        Instances::over(alloc, tree, places, dependents)
     }
 
     /// The instance times of an edited document to which nothing has happened yet, by those of the
-    /// document before; unless memory runs out. Where the two are alike, as `are_alike` of
+    /// document before and the places of its own elements; unless memory runs out. Where the two are alike, as `are_alike` of
     /// smil_graph says, what their items follow from is shared, and else made anew. It takes memory
     /// for each element and for each item.
-    pub fn revised(&self, before: &Tree, after: &Tree) -> Result<Instances, AllocError>
-        requires { AreDependentsOf before.now.nodes self.now.dependents }
+    pub fn revised(
+        &self,
+        before: &Tree,
+        after: &Tree,
+        places: Rc<SerialTable>,
+    ) -> Result<Instances, AllocError>
+        requires dependents { AreDependentsOf before.now.nodes self.now.dependents }
+        requires places { IsIndex (serials (elements after.now.nodes)) (get places.value) }
         ensures { (log : List AnyLogEntry)
             → IfOk result (λ value. IsSettled value after.now log []) }
     {
         let dependents = self.dependents_of(before, after)?;
-        Instances::over(self.alloc, after, dependents)
+        Instances::over(self.alloc, after, places, dependents)
     }
 
     // What the items of an edited document follow from.
@@ -115,13 +124,19 @@ impl Instances {
     }
 
     // The instance times of a document to which nothing has happened yet.
-    fn over(alloc: Global, tree: &Tree, dependents: Rc<Dependents>) -> Result<Instances, AllocError>
-        requires { AreDependentsOf tree.now.nodes dependents.value }
+    fn over(
+        alloc: Global,
+        tree: &Tree,
+        places: Rc<SerialTable>,
+        dependents: Rc<Dependents>,
+    ) -> Result<Instances, AllocError>
+        requires places { IsIndex (serials (elements tree.now.nodes)) (get places.value) }
+        requires dependents { AreDependentsOf tree.now.nodes dependents.value }
         ensures { (log : List AnyLogEntry)
             → IfOk result (λ value. IsSettled value tree.now log []) }
     {
         Ok(Instances {
-            rows: idle_rows(alloc, tree, dependents.as_ref())?,
+            rows: idle_rows(alloc, tree, dependents.as_ref(), places)?,
             dependents,
             adds: Vec::new(alloc),
             alloc,
@@ -178,7 +193,8 @@ impl Instances {
     {
         let DocumentHistory { tree, log, book } = *history;
         let dependents = self.dependents();
-        let mut rows = idle_rows(self.alloc, tree, dependents)?;
+        let places = Rc::new(self.alloc, places_of(self.alloc, tree, tree.elements())?)?;
+        let mut rows = idle_rows(self.alloc, tree, dependents, places)?;
         let mut adds = Vec::new(self.alloc);
         let mut notes = self.notes()?;
         let mut front = Book::new(self.alloc);
@@ -246,6 +262,28 @@ impl Instances {
     {
         rows_tell_instances();
         self.rows.ends(who)
+    }
+
+    /// The begins of the element at an index among the elements in document order, from 0: in
+    /// milliseconds on the clock of its time parent, in rising order. It takes no look-up, and no
+    /// memory.
+    pub fn begins_at(&self, index: usize) -> &[i64]
+        requires { index < length self.now.rows }
+        ensures { (h : History) (now : ℤ) (e : AnyNode) → IsElementAt self.now index h e
+            → result.now ≡ settled_begins h now e }
+    {
+        self.rows.begins_at(index)
+    }
+
+    /// The ends of the element at an index among the elements in document order, from 0: in
+    /// milliseconds on the clock of its time parent, in rising order, with indefinite last. It takes
+    /// no look-up, and no memory.
+    pub fn ends_at(&self, index: usize) -> &[Time]
+        requires { index < length self.now.rows }
+        ensures { (h : History) (now : ℤ) (e : AnyNode) → IsElementAt self.now index h e
+            → result.now ≡ settled_ends h now e }
+    {
+        self.rows.ends_at(index)
     }
 
     /// The first begin or end of an element that is not less than the value, in milliseconds on the

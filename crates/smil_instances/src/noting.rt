@@ -124,6 +124,9 @@ fn loses(rows: &Rows, cell: Cell, arrival: &Arrival<'_>) -> bool
 {
     arrival.history.tree.valid();
     bases_are_elements();
+    if rows.is_idle(cell) {
+        return false;
+    }
     let who = rows.serial_at(cell.row).unwrap();
     let source = arrival.dependents.source(cell);
     let own = CellItem { cell, who, source };

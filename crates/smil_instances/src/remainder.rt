@@ -71,6 +71,9 @@ fn trim_at(rows: &mut Rows, cell: Cell, arrival: &Arrival<'_>)
 {
     arrival.history.tree.valid();
     bases_are_elements();
+    if rows.is_idle(cell) {
+        return;
+    }
     let who = rows.serial_at(cell.row).unwrap();
     let source = arrival.dependents.source(cell);
     let own = CellItem { cell, who, source };

@@ -1,6 +1,8 @@
 //! What the times of an item follow from.
 
 use smil_model::Edge;
+use std::alloc::Global;
+use std::default::MadeWith;
 
 /// What the times of an item follow from. SMIL 3.0, "The begin and end attributes".
 #[derive(Clone, Copy)]
@@ -15,4 +17,10 @@ pub enum Source {
     Key { key: u8 },
     /// Nothing that happens: no element has the id, or the item is `indefinite`.
     Nothing,
+}
+
+impl MadeWith<Global> for Source {
+    fn made_with(_alloc: Global) -> Source {
+        Source::Nothing
+    }
 }

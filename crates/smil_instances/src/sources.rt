@@ -9,6 +9,7 @@ ghost use Rattle.smil_instances.specs.declared.source.Source.TheVariants as sour
 ghost use Rattle.smil_instances.specs.Spread.{element_of};
 
 use super::source::Source;
+use smallvec::SmallVec;
 use smil_model::{Bytes, Duplicate, Item, Items, Kind, Who};
 use smil_tree::Tree;
 use std::alloc::{AllocError, Global};
@@ -104,13 +105,13 @@ pub fn sources_of(
     alloc: Global,
     element: &Element<'_>,
     items: &Items,
-) -> Result<Vec<Source>, AllocError>
+) -> Result<SmallVec<Source, 1>, AllocError>
     requires { element.now.by_offset ≡ syncbase_or source.Start End
         (previous_in_seq element.now.tree.now.nodes element.now.who) }
     ensures { IfOk result (λ sources. sources.items
         ≡ map (source_of element.now.tree.now.nodes element.now.who) items.now) }
 {
-    let mut sources = Vec::with_capacity(alloc, items.len())?;
+    let mut sources = SmallVec::with_capacity(alloc, items.len())?;
     for item in items.slice() {
         sources.push(source_of(element, item)?)?;
     }

@@ -5,6 +5,7 @@ ghost use Rattle.std.specs.Prelude.{◌≡◌, ◌↔◌, ◌+◌, ◌<◌, IsTr
 ghost use Rattle.smil_model.specs.interval.Intervals.{interval_of, coming_interval};
 ghost use Rattle.smil_interval.specs.Rising.{IsRising, IsRisingTimes};
 
+mod absent;
 pub mod end;
 mod facts;
 pub mod laws;
@@ -13,6 +14,7 @@ pub mod rising;
 pub mod search;
 mod steps;
 
+pub use absent::evaluate_absent;
 use end::interval_at;
 pub use facts::IntervalFacts;
 pub use search::{first_interval, next_interval};

@@ -1,8 +1,9 @@
--- What evaluation reads of the attributes of an element.
+-- What evaluation reads of the attributes of an element, and where the element stands.
 use Rattle.std.proofs.Common.{◌≡◌, refl, ◌∙◌, ap, ℕ, List, Option, Some, None, Bool, true, false}
 use Rattle.std.specs.Prelude.{if◌then◌else◌, option_map}
 use Rattle.smil_model.specs.declared.times.Time.{Time}
 use Rattle.smil_model.specs.declared.document.Fill.{Fill}
+use Rattle.smil_model.specs.declared.document.Kind.{Kind}
 use Rattle.smil_model.specs.declared.document.Node.{Node}
 use Rattle.smil_model.specs.declared.document.Restart.{Restart}
 use Rattle.smil_model.specs.declared.interval.EndList.{EndList}
@@ -11,7 +12,10 @@ use Rattle.smil_model.specs.document.Defaults.{effective_fill, fill_of, restart_
 use Rattle.smil_model.specs.interval.Current.{end_list_of}
 use Rattle.smil_model.specs.interval.Durations.{Bounds, bounds_of, simple_duration, stated_duration}
 use Rattle.smil_past.specs.declared.makeup.Makeup.{Makeup}
-use Rattle.smil_past.specs.Makeups.{makeup_of, stated_simple}
+use Rattle.smil_past.specs.declared.makeup.ParentIndex.{ParentIndex}
+use Rattle.smil_model.specs.document.Edits.{place_in}
+use Rattle.smil_model.specs.document.Valid.{kind_of}
+use Rattle.smil_past.specs.Makeups.{makeup_of, parent_index, stated_simple}
 
 pub restart_is : (nodes : List Node) (s : ℕ) (e : Node) (r : Restart) → node_at nodes s ≡ Some e → Some r ≡ option_map (restart_of nodes) (node_at nodes s) → r ≡ restart_of nodes e
 restart_is nodes s e r at is =
@@ -23,9 +27,14 @@ fill_is nodes s e f at is =
     let same : Some f ≡ Some (fill_of nodes e) = is ∙ ap (option_map (fill_of nodes)) at in
     cc
 
-pub makeup_is : (nodes : List Node) (e : Node) (simple : Option Time) (bounds : Bounds) (list : EndList) (restart : Restart) (fill : Fill) → simple ≡ stated_simple e.attrs → bounds ≡ bounds_of e.attrs → list ≡ end_list_of e.attrs.«end» → restart ≡ restart_of nodes e → fill ≡ effective_fill nodes e → ◌≡◌ {A = Makeup} (record { simple = simple; bounds = bounds; end_list = list; restart = restart; fill = fill }) (makeup_of nodes e)
-makeup_is nodes e simple bounds list restart fill p1 p2 p3 p4 p5 =
-    λ i. record { simple = p1 i; bounds = p2 i; end_list = p3 i; restart = p4 i; fill = p5 i }
+pub kind_is : (nodes : List Node) (s : ℕ) (e : Node) (k : Kind) → node_at nodes s ≡ Some e → Some k ≡ kind_of (node_at nodes s) → k ≡ e.kind
+kind_is nodes s e k at is =
+    let same : Some k ≡ Some e.kind = is ∙ ap kind_of at in
+    cc
+
+pub makeup_is : (nodes : List Node) (e : Node) (simple : Option Time) (bounds : Bounds) (list : EndList) (restart : Restart) (fill : Fill) (kind : Kind) (node : ℕ) (parent : Option ParentIndex) → simple ≡ stated_simple e.attrs → bounds ≡ bounds_of e.attrs → list ≡ end_list_of e.attrs.«end» → restart ≡ restart_of nodes e → fill ≡ effective_fill nodes e → kind ≡ e.kind → node ≡ place_in nodes e.serial → parent ≡ parent_index nodes e.serial → ◌≡◌ {A = Makeup} (record { simple = simple; bounds = bounds; end_list = list; restart = restart; fill = fill; kind = kind; node = node; parent = parent }) (makeup_of nodes e)
+makeup_is nodes e simple bounds list restart fill kind node parent p1 p2 p3 p4 p5 p6 p7 p8 =
+    λ i. record { simple = p1 i; bounds = p2 i; end_list = p3 i; restart = p4 i; fill = p5 i; kind = p6 i; node = p7 i; parent = p8 i }
 
 -- ---- the simple duration, where the attributes tell it and where they don't
 

@@ -23,6 +23,7 @@ pub mod Catching
 pub mod ReferenceLent
 pub mod KeptActivity
 pub mod ElementMakeup
+pub mod ElementPlaces
 pub mod TimeParents
 pub mod PlayingChildren
 pub mod KeptFronts

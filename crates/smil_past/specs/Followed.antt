@@ -177,6 +177,14 @@ began_row h s m begin r = record r {
   began_since_birth = true;
 }
 
+-- a row with one more interval that finished, where there is one
+abbrev pub with_finished : Option PastInterval → PlayFacts → PlayFacts
+with_finished interval r = record r {
+  first_finished = option_or r.first_finished interval;
+  last_finished = option_or interval r.last_finished;
+  finished = finished_after interval r.finished;
+}
+
 abbrev pub finished_row : History → ℕ → ℤ → ℤ → Bool → PlayFacts → PlayFacts
 finished_row h s m finish was_cut r = record r {
   begun = None;

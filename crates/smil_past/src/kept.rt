@@ -88,7 +88,8 @@ fn first_instances(alloc: Global, document: &PreparedDocument) -> Result<Instanc
     ensures { (log : List AnyLogEntry)
         → IfOk result (λ value. IsSettled value document.now log []) }
 {
-    Instances::new(alloc, document.tree(), document.graph())
+    let places = document.syncs().places().clone()?;
+    Instances::new(alloc, document.tree(), places)
 }
 
 /// Appends the entries that a chronicle lacks, and keeps the readings at the middle of what is

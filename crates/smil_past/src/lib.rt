@@ -6,6 +6,7 @@
 mod chronicle;
 mod document;
 mod kept;
+pub mod laws;
 pub mod makeup;
 pub mod past;
 mod places;
@@ -14,7 +15,7 @@ mod queues;
 pub mod readings;
 pub mod syncs;
 
-pub use makeup::Makeup;
+pub use makeup::{Makeup, ParentIndex};
 pub use past::Past;
 pub use plays::{PastInterval, PlayFacts, Plays};
 pub use queues::{Queues, excl_above};

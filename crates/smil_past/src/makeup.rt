@@ -1,18 +1,27 @@
-//! What evaluation reads of the attributes of an element.
+//! What evaluation reads of an element's attributes, and where the element stands.
 
 ghost use Rattle.std.specs.Prelude.{◌≡◌, Some, IsSome};
 ghost use Rattle.std.specs.List.{list_any};
 ghost use Rattle.smil_model.specs.declared.document.Node.{Node as AnyNode};
 ghost use Rattle.smil_model.specs.document.Document.{node_at};
+ghost use Rattle.smil_model.specs.document.Edits.{place_in};
 ghost use Rattle.smil_model.specs.document.Defaults as defaults;
 ghost use Rattle.smil_model.specs.interval.Current as model;
-ghost use Rattle.smil_past.specs.Makeups.{makeup_of, stated_simple};
+ghost use Rattle.smil_past.specs.Makeups.{makeup_of, parent_index, stated_simple};
 
 use smil_duration::{Bounds, simple, takes_implicit};
-use smil_model::{Attrs, EndList, Fill, Item, Items, Restart, Time};
+use smil_model::{Attrs, EndList, Fill, Item, Items, Kind, Restart, Time};
 use smil_tree::Tree;
 
-/// What evaluation reads of the attributes of an element, in milliseconds.
+/// A time parent: its serial, and its index among the elements in document order, from 0.
+#[derive(Clone, Copy)]
+pub struct ParentIndex {
+    pub serial: u32,
+    pub index: u32,
+}
+
+/// What evaluation reads of the attributes of an element, in milliseconds; its kind, and where it
+/// and its time parent stand.
 #[derive(Clone, Copy)]
 pub struct Makeup {
     /// The simple duration; None where it is the implicit one.
@@ -24,6 +33,11 @@ pub struct Makeup {
     pub restart: Restart,
     /// The fill that holds: never `auto`.
     pub fill: Fill,
+    pub kind: Kind,
+    /// The element's place among the nodes in document order, from 0.
+    pub node: u32,
+    /// The time parent; None for the root.
+    pub parent: Option<ParentIndex>,
 }
 
 /// The makeup of an element. It takes no memory.
@@ -39,7 +53,30 @@ pub fn makeup_of(tree: &Tree, who: u32) -> Makeup
         end_list: end_list(&attrs.end),
         restart: tree.restart_of(who),
         fill: fill_by(attrs, tree.fill_of(who)),
+        kind: tree.kind(who),
+        node: node_place(tree, who),
+        parent: parent_index(tree, who),
     }
+}
+
+// The place of a node among the nodes.
+fn node_place(tree: &Tree, who: u32) -> u32
+    requires { IsSome (node_at tree.now.nodes who) }
+    ensures { result ≡ place_in tree.now.nodes who }
+{
+    tree.valid();
+    tree.position(who).unwrap() as u32
+}
+
+// The time parent of a node, with its index among the elements.
+fn parent_index(tree: &Tree, who: u32) -> Option<ParentIndex>
+    requires { IsSome (node_at tree.now.nodes who) }
+    ensures { result ≡ parent_index tree.now.nodes who }
+{
+    tree.valid();
+    let serial = tree.time_parent(who)?;
+    let index = tree.element_index(serial).unwrap() as u32;
+    Some(ParentIndex { serial, index })
 }
 
 // The simple duration where it is not the implicit one.

@@ -1,10 +1,11 @@
 //! What has happened in a presentation so far.
 
-ghost use Rattle.std.specs.Prelude.{◌≡◌, ◌<◌, ◌≤◌, ℕ, List, [], ◌∷◌, ◌++◌, length, take, true, None, Some, is_some, OnOk, OnErr, IfOk, IfErr};
+ghost use Rattle.std.specs.Prelude.{◌≡◌, ◌==◌, ◌<◌, ◌≤◌, ℕ, List, [], ◌∷◌, ◌++◌, length, take, true, None, Some, is_some, OnOk, OnErr, IfOk, IfErr};
 ghost use Rattle.smil_model.specs.declared.limits.TheConstants as limits;
 ghost use Rattle.smil_model.specs.declared.diary.LogEntry.{LogEntry as AnyLogEntry};
 ghost use Rattle.smil_model.specs.declared.document.Node.{Node as AnyNode};
 ghost use Rattle.std.specs.FinMap.{get};
+ghost use Rattle.std.specs.List.{position};
 ghost use Rattle.smil_model.specs.document.Document.{elements, node_at, serials};
 ghost use Rattle.smil_instances.specs.Spread.{IsIndex};
 ghost use Rattle.smil_model.specs.diary.Diary.{is_active};
@@ -23,7 +24,7 @@ use super::chronicle::Chronicle;
 use super::document::PreparedDocument;
 use super::kept::{KeptReadings, catch_up_keeping, drop_later, nearest};
 use super::makeup::Makeup;
-use super::places::shared_places;
+use super::places::{element_place, shared_places};
 use super::plays::Plays;
 use super::queues::Queues;
 use super::syncs::Syncs;
@@ -96,7 +97,7 @@ impl Past {
     {
         let graph = Graph::of(alloc, tree)?;
         let places = shared_places(alloc, graph.tree())?;
-        let instances = Instances::new(alloc, graph.tree(), &graph)?;
+        let instances = Instances::new(alloc, graph.tree(), places.clone()?)?;
         Past::over(alloc, graph, log, places, instances)
     }
 
@@ -145,7 +146,8 @@ impl Past {
         }) }
     {
         let places = self.places_of(graph.tree())?;
-        let instances = self.instances().revised(self.tree(), graph.tree())?;
+        let shared = places.clone()?;
+        let instances = self.instances().revised(self.tree(), graph.tree(), shared)?;
         let mut past = Past::over(self.alloc, graph, log, places, instances)?;
         for entry in entries {
             push(&mut past, *entry)?;
@@ -308,6 +310,16 @@ impl Past {
         ensures { result.now.nodes ≡ self.now.document.nodes }
     {
         self.document.graph()
+    }
+
+    /// The index of an element among the elements in document order, from 0; None exactly where
+    /// there is no such element. It takes one look-up, and no memory.
+    pub fn index_of(&self, who: u32) -> Option<usize>
+        ensures { result ≡ position (λ (n : AnyNode). n.serial == who)
+            (elements self.now.document.nodes) }
+    {
+        self.possible();
+        element_place(self.syncs().places(), who)
     }
 
     /// What the items of the document's elements wait for.

@@ -1,7 +1,8 @@
 //! The plays of all elements of a document.
 
-ghost use Rattle.std.specs.Prelude.{◌≡◌, ℕ, List, [], Some, None, IfOk, map, option_copied};
+ghost use Rattle.std.specs.Prelude.{◌≡◌, ◌<◌, ℕ, List, [], Some, None, IfOk, length, map, option_copied, slice_get};
 ghost use Rattle.std.specs.FinMap.{get};
+ghost use Rattle.smil_model.specs.declared.document.Node.{Node as AnyNode};
 ghost use Rattle.smil_model.specs.document.Document.{elements, serials, time_children};
 ghost use Rattle.smil_instances.specs.Spread.{IsIndex};
 ghost use Rattle.smil_model.specs.document.Valid.{IsNumberedTree};
@@ -10,7 +11,7 @@ ghost use Rattle.smil_model.specs.diary.Lawful.{IsLawful};
 ghost use Rattle.smil_past.specs.declared.plays.TheConstants.{IDLE};
 ghost use Rattle.smil_model.specs.Times.{IsMoment};
 ghost use Rattle.smil_laws.specs.Near.{HasNear};
-ghost use Rattle.smil_past.specs.Played.{TakesIn, all_played, played_at};
+ghost use Rattle.smil_past.specs.Played.{TakesIn, all_played, played, played_at};
 ghost use Rattle.smil_past.specs.Rows.{AreChildrenTaken, AreAfterParent, IsOwnTaken, IsAfterParent, idle_row, reset_row, row_of};
 ghost use Rattle.smil_instances.specs.Contribution.{AreClocksAt};
 ghost use Rattle.smil_past.specs.Followed.{IsEntryAfter, MayBeTaken};
@@ -129,6 +130,16 @@ impl Plays {
             → option_copied result ≡ played_at h who }
     {
         self.row(who)
+    }
+
+    /// What is kept of the element at an index among the elements in document order, from 0. It
+    /// takes no look-up, and no memory.
+    pub fn at(&self, index: usize) -> &PlayFacts
+        requires { index < length self.now }
+        ensures { (h : History) (e : AnyNode) → self.now ≡ all_played h
+            → slice_get (elements h.nodes) index ≡ Some e → result.now ≡ played h e.serial }
+    {
+        &self.rows[index].1
     }
 
     /// Whether an element is active; false where the document has no such element. It takes no

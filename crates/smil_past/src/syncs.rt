@@ -1,6 +1,6 @@
 //! What evaluation reads of the document for each element.
 
-ghost use Rattle.std.specs.Prelude.{◌≡◌, List, Some, IfOk, IsSome, option_copied, slice_get};
+ghost use Rattle.std.specs.Prelude.{◌≡◌, ◌<◌, List, Some, IfOk, IsSome, length, option_copied, slice_get};
 ghost use Rattle.smil_model.specs.declared.document.Node.{Node as AnyNode};
 ghost use Rattle.smil_model.specs.document.Document.{elements, node_at, serials};
 ghost use Rattle.std.specs.FinMap.{get};
@@ -121,6 +121,16 @@ impl Syncs {
             Some(place) => row_at(&self.rows, place),
             None => None,
         }
+    }
+
+    /// The row of the element at an index among the elements in document order, from 0. It takes no
+    /// look-up, and no memory.
+    pub fn at(&self, index: usize) -> &SyncbaseRow
+        requires { index < length self.now }
+        ensures { (nodes : List AnyNode) (e : AnyNode) → self.now ≡ all_syncs nodes
+            → slice_get (elements nodes) index ≡ Some e → result.now ≡ sync_row nodes e }
+    {
+        &self.rows[index]
     }
 }
 

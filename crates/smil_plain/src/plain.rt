@@ -67,7 +67,7 @@ impl Table for PlainTable {
         steps: &mut Steps<L>,
     ) -> Result<Self, AllocError> {
         let mut table = PlainTable {
-            known: CurrentRows::of(alloc, past.tree())?,
+            known: CurrentRows::of(alloc, past)?,
             due: DueQueue::new(alloc),
             noted: None,
             has_mark: false,

@@ -23,7 +23,7 @@ use Rattle.smil_element.specs.Element.{both}
 use Rattle.smil_element.specs.Comings.{HaveDueChanges}
 use Rattle.smil_rounds.specs.declared.current_rows.CurrentRow.{CurrentRow}
 use Rattle.smil_rounds.specs.Current.{IsCurrent}
-use Rattle.smil_rounds.specs.Rows.{IsChosen}
+use Rattle.smil_rounds.specs.Rows.{IsChosen, IsChosenBy}
 use Rattle.smil_rounds.proofs.RowsBesideElements.{row_at}
 use Rattle.smil_rounds.proofs.CurrentRowsExact.{current_elements}
 
@@ -176,20 +176,25 @@ comings_at h now place (d ∷ ds) (x ∷ xs) (suc k) n e r is eq p q = comings_a
 
 -- ---- the one that its key chooses
 
-chosen_is : (key : Key) (moved repeat chosen : Option DueChange) (place : ℕ) (cs : List model.DueChange) (c : model.DueChange) → both moved repeat ≡ cs → IsPlaced place cs → In c (both moved repeat) → c.key ≡ key → IsChosen key moved repeat chosen → option_map coming_meant chosen ≡ Some c
-chosen_is key None None chosen place cs c same placed is of_key by_key = absurd is
-chosen_is key None (Some r) chosen place cs c same placed (inl e) of_key by_key = ap (option_map coming_meant) by_key ∙ ap Some e
-chosen_is key None (Some r) chosen place cs c same placed (inr never) of_key by_key = absurd never
-chosen_is key (Some m) repeat chosen place cs c same placed (inl e) of_key (inl at) = ap (option_map coming_meant) at.1 ∙ ap Some e
-chosen_is key (Some m) repeat chosen place cs c same placed (inl e) of_key (inr at) = absurd (at.0 (ap (λ (k : model.DueChange). k.key) e ∙ of_key))
-chosen_is key (Some m) None chosen place cs c same placed (inr never) of_key by_key = absurd never
-chosen_is key (Some m) (Some r) chosen place cs c same placed (inr (inr never)) of_key by_key = absurd never
-chosen_is key (Some m) (Some r) chosen place cs c same placed (inr (inl e)) of_key (inr at) = ap (option_map coming_meant) at.1 ∙ ap Some e
-chosen_is key (Some m) (Some r) chosen place cs c same placed (inr (inl e)) of_key (inl at) =
-    let marks = placed.two (coming_meant m) (coming_meant r) (sym same) in
-    let keys_same : m.key ≡ r.key = at.0 ∙ sym (ap (λ (k : model.DueChange). k.key) e ∙ of_key) in
-    let never : false ≡ true = sym marks.0 ∙ ap (λ (k : Key). k.repeat) keys_same ∙ marks.1 in
-    cc
+-- where it tells the two apart, this chooses the one of which it is told
+module _ {A : Type 0} (told : Key → A) (code : A) where
+  abbrev pub IsApart : Option DueChange → Option DueChange → Type 0
+  IsApart moved repeat = (a b : DueChange) → moved ≡ Some a → repeat ≡ Some b → told a.key ≡ told b.key → (a.key).repeat ≡ (b.key).repeat
+
+  chosen_is : (moved repeat chosen : Option DueChange) (place : ℕ) (cs : List model.DueChange) (c : model.DueChange) → both moved repeat ≡ cs → IsPlaced place cs → In c (both moved repeat) → told c.key ≡ code → IsApart moved repeat → IsChosenBy told code moved repeat chosen → option_map coming_meant chosen ≡ Some c
+  chosen_is None None chosen place cs c same placed is of_key apart by_key = absurd is
+  chosen_is None (Some r) chosen place cs c same placed (inl e) of_key apart by_key = ap (option_map coming_meant) by_key ∙ ap Some e
+  chosen_is None (Some r) chosen place cs c same placed (inr never) of_key apart by_key = absurd never
+  chosen_is (Some m) repeat chosen place cs c same placed (inl e) of_key apart (inl at) = ap (option_map coming_meant) at.1 ∙ ap Some e
+  chosen_is (Some m) repeat chosen place cs c same placed (inl e) of_key apart (inr at) = absurd (at.0 (ap (λ (k : model.DueChange). told k.key) e ∙ of_key))
+  chosen_is (Some m) None chosen place cs c same placed (inr never) of_key apart by_key = absurd never
+  chosen_is (Some m) (Some r) chosen place cs c same placed (inr (inr never)) of_key apart by_key = absurd never
+  chosen_is (Some m) (Some r) chosen place cs c same placed (inr (inl e)) of_key apart (inr at) = ap (option_map coming_meant) at.1 ∙ ap Some e
+  chosen_is (Some m) (Some r) chosen place cs c same placed (inr (inl e)) of_key apart (inl at) =
+      let marks = placed.two (coming_meant m) (coming_meant r) (sym same) in
+      let keys_same : told m.key ≡ told r.key = at.0 ∙ sym (ap (λ (k : model.DueChange). told k.key) e ∙ of_key) in
+      let never : false ≡ true = sym marks.0 ∙ apart m r refl refl keys_same ∙ marks.1 in
+      cc
 
 -- ---- by the least key
 
@@ -204,19 +209,25 @@ some_comes : (key : Key) (o : Option model.DueChange) → option_map (λ (c : mo
 some_comes key None q = cc
 some_comes key (Some c) q = (c, refl, cc)
 
-pub first_by_key : (h : History) (now : ℤ) (rows : List CurrentRow) (due : set.FinSet key_cmp) (key : Key) (chosen : Option DueChange) → IsCurrent rows due h now → Some key ≡ least_key (keys h now) → ((r : CurrentRow) → slice_get rows key.position ≡ Some r → IsChosen key r.comings.moved r.comings.repeat chosen) → option_map coming_meant chosen ≡ first_coming (coming h now)
-first_by_key h now rows due key chosen is least by_row =
+-- where the least key is at the place, and this is told of it
+pub first_by : {A : Type 0} (told : Key → A) (code : A) (h : History) (now : ℤ) (rows : List CurrentRow) (due : set.FinSet key_cmp) (key : Key) (place : ℕ) (chosen : Option DueChange) → IsCurrent rows due h now → Some key ≡ least_key (keys h now) → told key ≡ code → key.position ≡ place → ((r : CurrentRow) → slice_get rows place ≡ Some r → IsApart told code r.comings.moved r.comings.repeat) → ((r : CurrentRow) → slice_get rows place ≡ Some r → IsChosenBy told code r.comings.moved r.comings.repeat chosen) → option_map coming_meant chosen ≡ first_coming (coming h now)
+first_by told code h now rows due key place chosen is least of_key here apart by_row =
     let found = some_comes key (first_coming (coming h now)) (first_key h now ∙ sym least) in
     let c = found.0 in
     let at = in_from h now (current_interval h now) 0 (elements h.nodes) c (first_in (coming h now) c found.1) in
-    let place : at.0 ≡ at.1 = place_is at.0 at.1 at.3 in
+    let index : at.0 ≡ at.1 = place_is at.0 at.1 at.3 in
     let row = row_at (elements h.nodes) rows at.0 at.2 (current_elements h now rows due is) at.4 in
     let comes = comings_at h now 0 (elements h.nodes) rows at.0 at.1 at.2 row.0 is.current.comings_are at.3 at.4 row.1 in
     let placed_there = placed h now (current_interval h now) at.1 at.2 in
-    let position : key.position ≡ at.0 = ap (λ (k : Key). k.position) (sym found.2) ∙ placed_there.at c at.5 ∙ sym place in
-    chosen_is key row.0.comings.moved row.0.comings.repeat chosen at.1 (coming_of h (current_interval h now) now at.1 at.2) c comes placed_there
-    (subst (In c) (sym comes) at.5) found.2 (by_row row.0 (ap (slice_get rows) position ∙ row.1))
+    let position : place ≡ at.0 = sym here ∙ ap (λ (k : Key). k.position) (sym found.2) ∙ placed_there.at c at.5 ∙ sym index in
+    let there : slice_get rows place ≡ Some row.0 = ap (slice_get rows) position ∙ row.1 in
+    chosen_is told code row.0.comings.moved row.0.comings.repeat chosen at.1 (coming_of h (current_interval h now) now at.1 at.2) c comes placed_there
+    (subst (In c) (sym comes) at.5) (ap told found.2 ∙ of_key) (apart row.0 there) (by_row row.0 there)
     ∙ sym found.1
   where
     place_is : (k n : ℕ) → n ≡ 0 + k → k ≡ n
     place_is k n eq = omega (arith, eq)
+
+pub first_by_key : (h : History) (now : ℤ) (rows : List CurrentRow) (due : set.FinSet key_cmp) (key : Key) (chosen : Option DueChange) → IsCurrent rows due h now → Some key ≡ least_key (keys h now) → ((r : CurrentRow) → slice_get rows key.position ≡ Some r → IsChosen key r.comings.moved r.comings.repeat chosen) → option_map coming_meant chosen ≡ first_coming (coming h now)
+first_by_key h now rows due key chosen is least by_row =
+    first_by (λ (k : Key). k) key h now rows due key key.position chosen is least refl refl (λ r got a b p q same. ap (λ (k : Key). k.repeat) same) by_row

@@ -1,6 +1,6 @@
 -- One element is evaluated, and its row put in its place.
 use Rattle.std.proofs.Common.{◌≡◌, refl, ◌∙◌, ap, sym, subst, ℕ, suc, zero, ◌+◌, ◌<◌, ◌≤◌, List, [], ◌∷◌, ◌++◌, length, Option, Some, None, ℤ, Bool, true, false, get_or, set, arith}
-use Rattle.std.specs.Prelude.{◌==◌, cond, not, nat_eq, nat_lt, slice_get, is_some, IfSome}
+use Rattle.std.specs.Prelude.{◌==◌, cond, not, nat_eq, nat_lt, slice_get, is_some}
 use Rattle.std.specs.List.{position, position_or_len}
 use Rattle.std.proofs.lemmas.Bool.{or_left, or_parts, eq-eqb, eqb-true, eqb-false, lt-ltb}
 use Rattle.std.proofs.lemmas.List.Folds.{list_any-append}
@@ -11,15 +11,11 @@ use Rattle.smil_model.specs.document.Document.{elements, is_element, node_at, se
 use Rattle.smil_model.specs.document.Valid.{IsDistinct}
 use Rattle.smil_model.specs.document.Closure.{has}
 use Rattle.smil_model.specs.diary.Diary.{History}
-use Rattle.smil_model.specs.happening.Keys.{coming_by}
-use Rattle.smil_laws.specs.Near.{AllNear, IsIntervalNear}
 use Rattle.smil_laws.proofs.ListMembers.{Differ, differ_all, differ_kept}
-use Rattle.smil_laws.proofs.NearIntervals.{interval_near}
 use Rattle.smil_laws.proofs.RoundsRest.{find-serial}
 use Rattle.smil_graph.specs.Graph.{IsGraphOrder}
-use Rattle.smil_element.specs.declared.comings.DueChanges.{DueChanges}
-use Rattle.smil_element.specs.declared.evaluation.Evaluation.{Evaluation}
-use Rattle.smil_element.specs.Element.{IsEvaluated, both}
+use Rattle.smil_element.specs.declared.outcome.Outcome.{Outcome}
+use Rattle.smil_element.specs.Element.{IsOutcome}
 use Rattle.smil_rounds.specs.declared.current_rows.CurrentRow.{CurrentRow}
 use Rattle.smil_rounds.specs.Current.{interval_in}
 use Rattle.smil_rounds.specs.Round.{AreRowsEvaluated, IsRowOf, IsRowEvaluated, StayUnchanged}
@@ -92,20 +88,12 @@ elements_few (n ∷ ns) = by_test (is_element n) (elements_few ns)
     by_test true l = omega (arith, l)
     by_test false l = omega (arith, l)
 
--- the numbers of an interval that was evaluated are near
-pub evaluated_near : (h : History) (intervals : ℕ → Option Interval) (now : ℤ) (e : Node) (made : Evaluation) → AllNear h.diary → IsEvaluated h intervals now e made → IfSome made.interval IsIntervalNear
-evaluated_near h intervals now e made near is = where_some made.interval (λ i q. interval_near h intervals now e i near (sym is.interval ∙ q))
-  where
-    where_some : (o : Option Interval) → ((i : Interval) → o ≡ Some i → IsIntervalNear i) → IfSome o IsIntervalNear
-    where_some None f = tt
-    where_some (Some i) f = f i refl
-
 -- the row of what an evaluation gives
-pub row_made : (h : History) (given : ℕ → Option Interval) (now : ℤ) (place who : ℕ) (e : Node) (made : Evaluation) (comings : DueChanges) → node_at (elements h.nodes) who ≡ Some e → IsEvaluated h given now e made → both comings.moved comings.repeat ≡ coming_by h made.interval made.simple now place e → IsRowOf h given now place e (record { serial = who; interval = made.interval; comings = comings })
-row_made h given now place who e made comings here is come = record {
+pub row_made : (h : History) (given : ℕ → Option Interval) (now : ℤ) (place who : ℕ) (e : Node) (made : Outcome) → node_at (elements h.nodes) who ≡ Some e → IsOutcome h given now place e made → IsRowOf h given now place e (record { serial = who; interval = made.interval; comings = made.comings })
+row_made h given now place who e made here is = record {
   serial = sym (find-serial who (elements h.nodes) e here);
   interval = is.interval;
-  comings = come ∙ ap (λ simple. coming_by h made.interval simple now place e) is.simple;
+  comings = is.comings;
 }
 
 -- an element is taken where its row is that by the rows as they were

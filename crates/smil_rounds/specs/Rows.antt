@@ -24,8 +24,14 @@ AreNear rows = AllByRecursion (λ (r : CurrentRow). IfSome r.interval IsInterval
 abbrev pub ArePlaces : (ℕ → Option ℕ) → List CurrentRow → Type 0
 ArePlaces found rows = AreFirstPlaces (λ (r : CurrentRow). r.serial) found rows
 
--- of the two that come of an element the first where it has this key, else the second
+-- of the two that come of an element the first where this is told of its key, else the second
+abbrev pub IsChosenBy : {A : Type 0} → (Key → A) → A → Option DueChange → Option DueChange
+    → Option DueChange → Type 0
+IsChosenBy told code None repeat chosen = chosen ≡ repeat
+IsChosenBy told code (Some moved) repeat chosen =
+    ((told moved.key ≡ code) × (chosen ≡ Some moved))
+    ⊎ ((told moved.key ≢ code) × (chosen ≡ repeat))
+
+-- the first where it has this key, else the second
 abbrev pub IsChosen : Key → Option DueChange → Option DueChange → Option DueChange → Type 0
-IsChosen key None repeat chosen = chosen ≡ repeat
-IsChosen key (Some moved) repeat chosen =
-    ((moved.key ≡ key) × (chosen ≡ Some moved)) ⊎ ((moved.key ≢ key) × (chosen ≡ repeat))
+IsChosen key = IsChosenBy (λ (k : Key). k) key

@@ -8,20 +8,20 @@ ghost use Rattle.smil_model.specs.document.Dependencies.{has_implicit_duration};
 ghost use Rattle.smil_model.specs.diary.Lawful.{has_element};
 ghost use Rattle.smil_laws.specs.Near.{IsIntervalNear};
 ghost use Rattle.smil_past.specs.Past.{IsPresent, history_of};
-ghost use Rattle.smil_element.specs.Subject.{IsFound};
 ghost use Rattle.smil_rounds.specs.declared.current_rows.CurrentRow.{CurrentRow as AnyRow};
 ghost use Rattle.smil_rounds.specs.Round.{IsRowOf};
 ghost use Rattle.smil_rounds.specs.Rows.{IsChosen, empty_row, row_without};
 
 use smil_element::{
-    Container, Containers, DueChange, DueChanges, Intervals, Present, Room, Subject, comings_of,
-    evaluation_of, is_same_coming, subject_of, walked_duration,
+    Container, Containers, DueChange, DueChanges, Intervals, Present, Room, is_same_coming,
+    outcome_of, walked_duration,
 };
 use smil_interval::Steps;
-use smil_model::{ChildEnd, Duplicate, HasSerial, Interval, Key, SerialTable, Time, first_places};
-use smil_tree::Tree;
+use smil_model::{ChildEnd, Duplicate, HasSerial, Interval, Key, SerialTable, Time};
+use smil_past::Past;
 use std::alloc::{AllocError, Global};
 use std::marker::Model;
+use std::rc::Rc;
 use std::sync::ledger::Ledger;
 
 /// An element with its interval, in milliseconds on the clock of its time parent, and what comes of
@@ -53,7 +53,8 @@ pub struct IndexedElement<'a> {
 #[derive(Drop)]
 pub struct CurrentRows {
     rows: Vec<CurrentRow>,
-    places: SerialTable,
+    /// The places of the elements, which all that is kept of elements shares.
+    places: Rc<SerialTable>,
 }
 
 impl Model for CurrentRows {
@@ -66,7 +67,7 @@ impl Model for CurrentRows {
 
     ghost view = { λ a. a.rows.items };
 
-    ghost invariant = { λ a. AreNear a.rows.items × ArePlaces (get a.places) a.rows.items };
+    ghost invariant = { λ a. AreNear a.rows.items × ArePlaces (get a.places.value) a.rows.items };
 }
 
 impl Intervals for CurrentRows {
@@ -94,11 +95,9 @@ impl Containers for CurrentRows {
 
 impl Duplicate for CurrentRows {
     fn copy(&self) -> Result<Self, AllocError> {
-        let alloc = *self.rows.allocator();
-        let rows = Vec::from_slice(alloc, &self.rows)?;
         Ok(CurrentRows {
-            places: first_places(alloc, &rows)?,
-            rows,
+            rows: Vec::from_slice(*self.rows.allocator(), &self.rows)?,
+            places: self.places.clone()?,
         })
     }
 }
@@ -106,13 +105,14 @@ impl Duplicate for CurrentRows {
 impl CurrentRows {
     /// The elements of a document without intervals, of which nothing comes; unless memory runs
     /// out.
-    pub fn of(alloc: Global, tree: &Tree) -> Result<CurrentRows, AllocError>
-        ensures { IfOk result (λ known. known ≡ map empty_row (elements tree.now.nodes)) }
+    pub fn of(alloc: Global, past: &Past) -> Result<CurrentRows, AllocError>
+        ensures { IfOk result (λ known. known
+            ≡ map empty_row (elements past.now.document.nodes)) }
     {
-        let rows = empty_rows(alloc, tree.elements())?;
+        past.possible();
         Ok(CurrentRows {
-            places: first_places(alloc, &rows)?,
-            rows,
+            rows: empty_rows(alloc, past.tree().elements())?,
+            places: past.syncs().places().clone()?,
         })
     }
 
@@ -178,47 +178,13 @@ pub fn row_of<J: Containers, L: Ledger>(
     ensures most { steps.new ≤ steps.old + 1 }
     ensures counted { steps.old ≤ steps.new }
 {
-    row_by(
-        &subject_of(&element.present),
-        element.index,
-        intervals,
-        room,
-        steps,
-    )
-}
-
-// The row of the element at an index, given the intervals of the others; one evaluation is counted.
-fn row_by<J: Containers, L: Ledger>(
-    subject: &Subject<'_>,
-    index: usize,
-    intervals: &J,
-    room: &mut Room,
-    steps: &mut Steps<L>,
-) -> Result<CurrentRow, AllocError>
-    requires found { IsFound subject.now }
-    requires index { slice_get (elements subject.now.present.past.now.document.nodes) index
-        ≡ node_at (elements subject.now.present.past.now.document.nodes)
-        subject.now.present.who }
-    requires known { (e : AnyNode)
-        → node_at (elements subject.now.present.past.now.document.nodes) subject.now.present.who
-        ≡ Some e → has_implicit_duration e ≡ true
-        → J.knows_ends intervals.now (history_of subject.now.present.past.now)
-        subject.now.present.who }
-    ensures row { (e : AnyNode)
-        → node_at (elements subject.now.present.past.now.document.nodes) subject.now.present.who
-        ≡ Some e → IfOk result (IsRowOf (history_of subject.now.present.past.now)
-        (J.given intervals.now) subject.now.present.moment index e) }
-    ensures near { IfOk result (λ row. IfSome row.interval IsIntervalNear) }
-    ensures steps { OnOk result (steps.new ≡ steps.old + 1) }
-    ensures most { steps.new ≤ steps.old + 1 }
-    ensures counted { steps.old ≤ steps.new }
-{
-    subject.present.past.possible();
-    let made = evaluation_of(subject, intervals, room, steps)?;
+    element.present.past.possible();
+    let index = element.index;
+    let made = outcome_of(&element.present, index as u32, intervals, room, steps)?;
     Ok(CurrentRow {
-        serial: subject.present.who,
+        serial: element.present.who,
         interval: made.interval,
-        comings: comings_of(subject, index as u32, &made),
+        comings: made.comings,
     })
 }
 

@@ -21,7 +21,7 @@ use Rattle.smil_stretch.specs.NodeClocks.{clock_at, at_place, parent_at, shown_b
 use Rattle.smil_stretch.proofs.ClockAtMoment.{run_later}
 use Rattle.smil_stretch.proofs.NodesAbove.{known_element}
 use Rattle.smil_stretch.proofs.NodePlaces.{place, IsParentAt, parent_at_place, no_parent_place}
-use Rattle.smil_tree.proofs.NodeFamilies.{no_chain, none_held}
+use Rattle.smil_tree.proofs.NodeFamilies.{no_chain, node_of_place, none_held}
 
 -- ---- what is no node
 
@@ -71,6 +71,12 @@ standing false time from = refl
 module _ (clocks : List NodeClock) (h : History) (are : AreClocksOf clocks h) where
   clock_is : (s : ℕ) → clock_at clocks s ≡ option_map (node_clock h) (node_at h.nodes s)
   clock_is s = ap (λ cs. clock_at cs s) are.value ∙ found_clock h s h.nodes
+
+  -- the clock at the place of a node
+  pub clock_there : (k : ℕ) (n : Node) → slice_get h.nodes k ≡ Some n → slice_get clocks k ≡ clock_at clocks n.serial
+  clock_there k n at =
+      ap (λ cs. slice_get cs k) are.value ∙ slice_get-map (node_clock h) h.nodes k ∙ ap (option_map (node_clock h)) at
+      ∙ sym (clock_is n.serial ∙ ap (option_map (node_clock h)) (node_of_place h.nodes k n are.document.distinct at))
 
   serial_is : (s : ℕ) (n : Node) → node_at h.nodes s ≡ Some n → n.serial ≡ s
   serial_is s n q = eqb-true n.serial s (find_true (λ (m : Node). m.serial == s) h.nodes n q)

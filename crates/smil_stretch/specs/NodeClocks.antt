@@ -30,10 +30,13 @@ clock_at clocks serial = find (λ (n : NodeClock). n.serial == serial) clocks
 abbrev pub at_place : List NodeClock → Option ℕ → Option NodeClock
 at_place clocks place = option_and_then (slice_get clocks) place
 
+-- the clock of the time parent of a node
+abbrev pub parent_of : List NodeClock → Option NodeClock → Option NodeClock
+parent_of clocks node = option_and_then (λ (n : NodeClock). at_place clocks n.parent) node
+
 -- the clock of the time parent of the node with this serial
 abbrev pub parent_at : List NodeClock → ℕ → Option NodeClock
-parent_at clocks serial =
-    option_and_then (λ (n : NodeClock). at_place clocks n.parent) (clock_at clocks serial)
+parent_at clocks serial = parent_of clocks (clock_at clocks serial)
 
 -- what such a clock shows, and whether it stands; where there is none it is document time
 abbrev pub shown_by : Option NodeClock → ℤ → ℤ

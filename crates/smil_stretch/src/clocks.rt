@@ -22,13 +22,15 @@ use smil_model::{Duplicate, Entry, SerialTable, Step, first_places};
 use smil_tree::Tree;
 use std::alloc::{AllocError, Global};
 use std::marker::Model;
+use std::rc::Rc;
 
 /// The clocks of a document after what has happened so far, seen as the clock of each node in
 /// document order. Each answer is for moments from the last entry of the diary on. A clock runs,
 /// and is behind document time by what it lost, or stands while its element or one above it is
 /// paused.
 pub struct Clocks {
-    places: SerialTable,
+    /// The places of the nodes; a copy has the same ones.
+    places: Rc<SerialTable>,
     clocks: Vec<NodeClock>,
 }
 
@@ -53,13 +55,15 @@ impl Model for Clocks {
     ghost view = { λ a. a.clocks.items };
 
     ghost invariant = { λ a.
-        ArePlacesOf (get a.places) a.clocks.items × AllFit a.clocks.items };
+        ArePlacesOf (get a.places.value) a.clocks.items × AllFit a.clocks.items };
 }
 
 impl Duplicate for Clocks {
     fn copy(&self) -> Result<Self, AllocError> {
-        let alloc = *self.clocks.allocator();
-        Clocks::indexed(alloc, Vec::from_slice(alloc, &self.clocks)?)
+        Ok(Clocks {
+            places: self.places.clone()?,
+            clocks: Vec::from_slice(*self.clocks.allocator(), &self.clocks)?,
+        })
     }
 }
 
@@ -219,7 +223,7 @@ impl Clocks {
         ensures { IfOk result (λ made. made ≡ clocks.items) }
     {
         Ok(Clocks {
-            places: first_places(alloc, &clocks)?,
+            places: Rc::new(alloc, first_places(alloc, &clocks)?)?,
             clocks,
         })
     }
@@ -282,7 +286,7 @@ fn idle_clocks(alloc: Global, tree: &Tree) -> Result<Vec<NodeClock>, AllocError>
     ensures { IfOk result (λ clocks. clocks.items
         ≡ map (idle_clock tree.now.nodes) tree.now.nodes) }
 {
-    let mut clocks = Vec::new(alloc);
+    let mut clocks = Vec::with_capacity(alloc, tree.len())?;
     for node in tree.nodes() {
         clocks.push(NodeClock {
             serial: node.serial,

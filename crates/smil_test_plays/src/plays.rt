@@ -223,7 +223,8 @@ fn tell_times(alloc: Global, out: &mut Bytes, cells: &PlainCells) -> Result<(), 
 fn instances_anew(alloc: Global, past: &Past) -> Result<Instances, AllocError> {
     past.possible();
     let tree = past.tree();
-    let mut instances = Instances::new(alloc, tree, past.graph())?;
+    let places = past.syncs().places().clone()?;
+    let mut instances = Instances::new(alloc, tree, places)?;
     instances.rebuild(tree, past.log(), past.book())?;
     Ok(instances)
 }

@@ -24,8 +24,15 @@ pub struct PlayFacts {
     /// clock.
     pub first: i64,
     pub start: i64,
-    /// The first and the last interval that finished since birth.
-    pub first_finished: Option<PastInterval>,
+    /// The number of the iteration of the last play since birth, from 0; 0 where there is none.
+    pub iteration: u32,
+    /// How many intervals finished since birth.
+    pub finished: u32,
+    /// Whether the element is active and paused.
+    pub paused: bool,
+    /// Whether the element began since birth.
+    pub began_since_birth: bool,
+    /// The last interval that finished since birth.
     pub last_finished: Option<PastInterval>,
     /// The begin that an excl has deferred, in document time.
     pub shown_deferred: Option<i64>,
@@ -33,12 +40,6 @@ pub struct PlayFacts {
     pub passed: Option<i64>,
     /// The last length of the element's media that the diary tells.
     pub length: Time,
-    /// Whether the element is active and paused.
-    pub paused: bool,
-    /// The number of the iteration of the last play since birth, from 0; 0 where there is none.
-    pub iteration: u32,
-    /// How many intervals finished since birth.
-    pub finished: u32,
-    /// Whether the element began since birth.
-    pub began_since_birth: bool,
+    /// The first interval that finished since birth.
+    pub first_finished: Option<PastInterval>,
 }

@@ -8,7 +8,7 @@ ghost use Rattle.smil_model.specs.Times.{IsMoment, IsNear};
 ghost use Rattle.smil_laws.specs.Near.{HasNear};
 ghost use Rattle.smil_model.specs.reach.Reach.{subject_of};
 ghost use Rattle.smil_instances.specs.Contribution.{AreClocksAt};
-ghost use Rattle.smil_past.specs.Followed.{began_row, child_after, finished_interval, deferred_row, finished_row, own_after, told_by, finished_after, next_iteration};
+ghost use Rattle.smil_past.specs.Followed.{began_row, child_after, deferred_row, finished_interval, finished_row, own_after, told_by, next_iteration, with_finished};
 
 use super::facts::{PastInterval, PlayFacts};
 use smil_model::{Entry, Happening, Log, LogEntry, Step, Time};
@@ -116,14 +116,35 @@ fn finished(own: &OwnEntry<'_>, finish: i64, was_cut: bool, row: &mut PlayFacts)
         ..
     } = *own;
     let shown_finish = clocks.to_document(who, finish, entry.moment);
-    let interval = finished_interval(row, finish, shown_finish, was_cut);
+    keep_finished(row, finish, shown_finish, was_cut);
     row.begun = None;
     row.shown_begun = None;
-    row.first_finished = row.first_finished.or(interval);
-    row.last_finished = interval.or(row.last_finished);
-    row.finished = count_finished(&interval, row.finished);
     row.shown_deferred = None;
     row.paused = false;
+}
+
+// Keeps the interval of the play of a row, which finishes, where there is a play.
+#[inline(always)]
+fn keep_finished(row: &mut PlayFacts, finish: i64, shown_finish: i64, was_cut: bool)
+    ensures { (h : History) (s : ℕ) (m : ℤ) → shown_finish ≡ document_time h s finish m → row.new
+        ≡ with_finished (finished_interval h s m finish was_cut row.old.begun row.old.shown_begun)
+        row.old }
+{
+    let (Some(begin), Some(shown_begin)) = (row.begun, row.shown_begun) else {
+        return;
+    };
+    let interval = PastInterval {
+        begin,
+        finish,
+        shown_begin,
+        shown_finish,
+        was_cut,
+    };
+    if row.first_finished.is_none() {
+        row.first_finished = Some(interval);
+    }
+    row.last_finished = Some(interval);
+    row.finished = row.finished.saturating_add(1);
 }
 
 // What a begin that is deferred makes of a row.
@@ -140,38 +161,6 @@ fn put_off(own: &OwnEntry<'_>, begin: i64, row: &mut PlayFacts)
         ..
     } = *own;
     row.shown_deferred = Some(clocks.to_document(who, begin, entry.moment));
-}
-
-// The interval of the play of a row, which finishes; None where there is no play.
-fn finished_interval(
-    row: &PlayFacts,
-    finish: i64,
-    shown_finish: i64,
-    was_cut: bool,
-) -> Option<PastInterval>
-    ensures { (h : History) (s : ℕ) (m : ℤ) → shown_finish ≡ document_time h s finish m → result
-        ≡ finished_interval h s m finish was_cut row.now.begun row.now.shown_begun }
-{
-    match (row.begun, row.shown_begun) {
-        (Some(begin), Some(shown_begin)) => Some(PastInterval {
-            begin,
-            finish,
-            shown_begin,
-            shown_finish,
-            was_cut,
-        }),
-        _ => None,
-    }
-}
-
-// How many intervals there are with this one, where there is one.
-fn count_finished(interval: &Option<PastInterval>, before: u32) -> u32
-    ensures { result ≡ finished_after interval.now before }
-{
-    match interval {
-        Some(_) => before.saturating_add(1),
-        None => before,
-    }
 }
 
 // The number of the iteration that a repeat starts.

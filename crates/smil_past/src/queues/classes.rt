@@ -15,7 +15,7 @@ pub fn classes_of(alloc: Global, tree: &Tree) -> Result<Vec<Class>, AllocError>
     ensures { IfOk result (λ classes. classes.items ≡ classes_in tree.now.nodes) }
 {
     tree.valid();
-    let mut classes = Vec::new(alloc);
+    let mut classes = Vec::with_capacity(alloc, tree.len())?;
     for node in tree.nodes() {
         classes.push(class_of(tree, node.serial))?;
     }

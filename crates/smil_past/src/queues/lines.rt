@@ -16,7 +16,7 @@ use std::alloc::{AllocError, Global};
 pub fn empty_queues(alloc: Global, tree: &Tree) -> Result<Vec<Queue>, AllocError>
     ensures { IfOk result (λ queues. queues.items ≡ lines tree.now.nodes (λ serial. [])) }
 {
-    let mut queues = Vec::new(alloc);
+    let mut queues = Vec::with_capacity(alloc, tree.len())?;
     for node in tree.nodes() {
         queues.push(Queue::new(alloc, time_children_of(tree, node.serial))?)?;
     }

@@ -17,7 +17,7 @@ pub fn none_playing(alloc: Global, tree: &Tree) -> Result<Vec<Queue>, AllocError
     ensures { IfOk result (λ playing. playing.items ≡ playing_lines tree.now.nodes
         (λ serial. false)) }
 {
-    let mut playing = Vec::new(alloc);
+    let mut playing = Vec::with_capacity(alloc, tree.len())?;
     for node in tree.nodes() {
         playing.push(Queue::new(alloc, room_in(tree, node))?)?;
     }

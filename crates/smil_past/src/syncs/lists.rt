@@ -7,6 +7,7 @@ ghost use Rattle.smil_model.specs.document.Document.{elements, node_at};
 ghost use Rattle.smil_instances.specs.Dependents.{AreDependentsOf};
 ghost use Rattle.smil_past.specs.Syncs.{listed, offset_of, sync_by, syncs_of, IsListOf};
 
+use smallvec::SmallVec;
 use smil_graph::Graph;
 use smil_instance_rows::Cell;
 use smil_instances::{Dependents, Source, Syncbase};
@@ -28,7 +29,7 @@ impl Reader<'_> {
         place: usize,
         who: u32,
         begin: &Option<Items>,
-    ) -> Result<Vec<Syncbase>, AllocError>
+    ) -> Result<SmallVec<Syncbase, 1>, AllocError>
         requires { AreDependentsOf self.now.graph.now.nodes self.now.dependents.now }
         ensures { IfOk result (λ syncs. (e : AnyNode)
             → slice_get (elements self.now.graph.now.nodes) place ≡ Some e
@@ -47,7 +48,7 @@ impl Reader<'_> {
         place: usize,
         who: u32,
         end: &Option<Items>,
-    ) -> Result<Vec<Syncbase>, AllocError>
+    ) -> Result<SmallVec<Syncbase, 1>, AllocError>
         requires { AreDependentsOf self.now.graph.now.nodes self.now.dependents.now }
         ensures { IfOk result (λ syncs. (e : AnyNode)
             → slice_get (elements self.now.graph.now.nodes) place ≡ Some e
@@ -56,7 +57,7 @@ impl Reader<'_> {
     {
         match end {
             Some(items) => self.list_syncs(place, who, Edge::End, items),
-            None => Ok(Vec::new(self.alloc)),
+            None => Ok(SmallVec::new(self.alloc)),
         }
     }
 
@@ -67,13 +68,13 @@ impl Reader<'_> {
         who: u32,
         side: Edge,
         items: &Items,
-    ) -> Result<Vec<Syncbase>, AllocError>
+    ) -> Result<SmallVec<Syncbase, 1>, AllocError>
         requires { AreDependentsOf self.now.graph.now.nodes self.now.dependents.now }
         ensures { IfOk result (λ syncs. (e : AnyNode)
             → IsListOf self.now.graph.now.nodes place who side e items.now → syncs.items
             ≡ syncs_of self.now.graph.now.nodes side e) }
     {
-        let mut syncs = Vec::new(self.alloc);
+        let mut syncs = SmallVec::new(self.alloc);
         for (at, item) in items.slice().iter().enumerate() {
             let source = self.dependents.source(Cell {
                 row: place,
@@ -89,7 +90,7 @@ impl Reader<'_> {
 
     // What the item waits for that stands for a begin list where there is none: an offset of 0, or
     // `indefinite` in a child of an excl, whose source is nothing.
-    fn default_syncs(&self, place: usize) -> Result<Vec<Syncbase>, AllocError>
+    fn default_syncs(&self, place: usize) -> Result<SmallVec<Syncbase, 1>, AllocError>
         requires { AreDependentsOf self.now.graph.now.nodes self.now.dependents.now }
         ensures { IfOk result (λ syncs. (e : AnyNode)
             → slice_get (elements self.now.graph.now.nodes) place ≡ Some e → e.attrs.begin ≡ None
@@ -100,7 +101,7 @@ impl Reader<'_> {
             side: Edge::Begin,
             item: 0,
         });
-        let mut syncs = Vec::new(self.alloc);
+        let mut syncs = SmallVec::new(self.alloc);
         push_some(
             &mut syncs,
             sync_by(false, &Item::Offset { offset: 0 }, source),
@@ -110,7 +111,7 @@ impl Reader<'_> {
 }
 
 // Appends what there is.
-fn push_some(syncs: &mut Vec<Syncbase>, sync: Option<Syncbase>) -> Result<(), AllocError>
+fn push_some(syncs: &mut SmallVec<Syncbase, 1>, sync: Option<Syncbase>) -> Result<(), AllocError>
     ensures { OnOk result (syncs.new.items ≡ syncs.old.items ++ listed sync) }
 {
     if let Some(sync) = sync {

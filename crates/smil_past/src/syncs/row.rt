@@ -4,6 +4,7 @@ ghost use Rattle.std.specs.Prelude.{◌≡◌};
 ghost use Rattle.smil_past.specs.Syncs.{syncs_on};
 
 use crate::makeup::Makeup;
+use smallvec::SmallVec;
 use smil_instances::Syncbase;
 use smil_model::Edge;
 use std::marker::Model;
@@ -13,8 +14,8 @@ use std::marker::Model;
 #[derive(Drop)]
 pub struct SyncbaseRow {
     pub(crate) serial: u32,
-    pub(crate) begins: Vec<Syncbase>,
-    pub(crate) ends: Vec<Syncbase>,
+    pub(crate) begins: SmallVec<Syncbase, 1>,
+    pub(crate) ends: SmallVec<Syncbase, 1>,
     pub(crate) makeup: Makeup,
 }
 

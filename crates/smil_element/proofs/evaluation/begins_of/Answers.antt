@@ -4,10 +4,17 @@ use Rattle.smil_model.specs.diary.Diary.{History}
 use Rattle.smil_past.specs.Syncs.{syncs_of}
 use Rattle.smil_past.specs.Past.{history_of}
 use Rattle.smil_element.proofs.ExpectedTimes.{none_there, begins_settled}
+use Rattle.smil_element.proofs.IndexedElements.{element_here, times_within}
 use Rattle.smil_element.proofs.evaluation.begins_of.Goals as goal
+
+pub begins_at-requires : goal.begins_at-requires
+begins_at-requires g c =
+    let subject = c.args.reading.now.subject.now in
+    let nodes = subject.present.past.now.document.nodes in
+    times_within (history_of subject.present.past.now) c.instances.result.now.rows subject.index c.instances.ensures.rows (element_here nodes subject.index subject.present.who c.requires.element c.requires.here).within
 
 pub returns-then-is_settled : goal.returns-then-is_settled
 returns-then-is_settled g c = λ e here.
     let h : History = history_of c.args.reading.now.subject.now.present.past.now in
     let none : syncs_of h.nodes Begin e ≡ [] = none_there (syncs_of h.nodes Begin e) (sym (c.is_settled.ensures e here) ∙ c.if-is_settled.true) in
-    c.begins.ensures.model h c.args.reading.now.subject.now.present.moment e (record { rows = c.instances.ensures.rows; known = here }) ∙ begins_settled h c.args.reading.now.subject.now.present.moment e (g.J.Intervals.given c.args.reading.now.intervals.now) none
+    c.begins_at.ensures h c.args.reading.now.subject.now.present.moment e (record { rows = c.instances.ensures.rows; here = c.requires.here ∙ here }) ∙ begins_settled h c.args.reading.now.subject.now.present.moment e (g.J.Intervals.given c.args.reading.now.intervals.now) none

@@ -13,7 +13,14 @@ use Rattle.smil_past.specs.Past.{history_of}
 use Rattle.smil_element.specs.Pouring.{with_times}
 use Rattle.smil_element.proofs.ExpectedTimes.{begins_merged, begins_rise}
 use Rattle.smil_instances.proofs.IdTargets.{element_of}
+use Rattle.smil_element.proofs.IndexedElements.{element_here, times_within}
 use Rattle.smil_element.proofs.expected.pour_begins.Goals as goal
+
+pub begins_at-requires : goal.begins_at-requires
+begins_at-requires g c =
+    let subject = c.args.reading.now.subject.now in
+    let nodes = subject.present.past.now.document.nodes in
+    times_within (history_of subject.present.past.now) c.instances.result.now.rows subject.index c.instances.ensures.rows (element_here nodes subject.index subject.present.who c.requires.element c.requires.here).within
 
 pub pour-requires-clause-rising : goal.pour-requires-clause-rising
 pour-requires-clause-rising g c =
@@ -21,7 +28,7 @@ pour-requires-clause-rising g c =
     let found = element_of h.nodes c.args.reading.now.subject.now.present.who c.requires.element in
     let items : c.refill.new.times.items ≡ settled_begins h c.args.reading.now.subject.now.present.moment found.0 =
     c.in_ok-refill.ensures
-    ∙ c.begins.ensures.model h c.args.reading.now.subject.now.present.moment found.0 (record { rows = c.instances.ensures.rows; known = found.1 }) in
+    ∙ c.begins_at.ensures h c.args.reading.now.subject.now.present.moment found.0 (record { rows = c.instances.ensures.rows; here = c.requires.here ∙ found.1 }) in
     subst (λ (xs : List ℤ). IsRising int_le xs) (sym items) (begins_rise h no_interval c.args.reading.now.subject.now.present.moment found.0)
 
 pub returns : goal.returns
@@ -30,7 +37,7 @@ returns g c = λ e here.
     let given : ℕ → Option Interval = g.J.Intervals.given c.args.reading.now.intervals.now in
     let items : c.refill.new.times.items ≡ settled_begins h c.args.reading.now.subject.now.present.moment e =
     c.in_ok-refill.ensures
-    ∙ c.begins.ensures.model h c.args.reading.now.subject.now.present.moment e (record { rows = c.instances.ensures.rows; known = here }) in
+    ∙ c.begins_at.ensures h c.args.reading.now.subject.now.present.moment e (record { rows = c.instances.ensures.rows; here = c.requires.here ∙ here }) in
     let syncs : c.side.result.now ≡ syncs_of h.nodes Begin e = c.side.ensures ∙ ap (syncs_on Begin) (c.requires.row_is e here) in
     let serial : c.args.reading.now.subject.now.present.who ≡ e.serial = sym (stands (elements h.nodes) c.args.reading.now.subject.now.present.who e here).serial in
     on_ok_weaker c.pour.result

@@ -15,7 +15,14 @@ use Rattle.smil_past.specs.Past.{history_of}
 use Rattle.smil_element.specs.Pouring.{with_times}
 use Rattle.smil_element.proofs.ExpectedTimes.{ends_merged, ends_rise}
 use Rattle.smil_instances.proofs.IdTargets.{element_of}
+use Rattle.smil_element.proofs.IndexedElements.{element_here, times_within}
 use Rattle.smil_element.proofs.expected.pour_ends.Goals as goal
+
+pub ends_at-requires : goal.ends_at-requires
+ends_at-requires g c =
+    let subject = c.args.reading.now.subject.now in
+    let nodes = subject.present.past.now.document.nodes in
+    times_within (history_of subject.present.past.now) c.instances.result.now.rows subject.index c.instances.ensures.rows (element_here nodes subject.index subject.present.who c.requires.element c.requires.here).within
 
 pub pour-requires-clause-rising : goal.pour-requires-clause-rising
 pour-requires-clause-rising g c =
@@ -23,7 +30,7 @@ pour-requires-clause-rising g c =
     let found = element_of h.nodes c.args.reading.now.subject.now.present.who c.requires.element in
     let items : c.refill.new.times.items ≡ settled_ends h c.args.reading.now.subject.now.present.moment found.0 =
     c.in_ok-refill.ensures
-    ∙ c.ends.ensures.model h c.args.reading.now.subject.now.present.moment found.0 (record { rows = c.instances.ensures.rows; known = found.1 }) in
+    ∙ c.ends_at.ensures h c.args.reading.now.subject.now.present.moment found.0 (record { rows = c.instances.ensures.rows; here = c.requires.here ∙ found.1 }) in
     subst (λ (xs : List Time). IsRising time_le xs) (sym items) (ends_rise h no_interval c.args.reading.now.subject.now.present.moment found.0)
 
 pub returns : goal.returns
@@ -32,7 +39,7 @@ returns g c = λ e here.
     let given : ℕ → Option Interval = g.J.Intervals.given c.args.reading.now.intervals.now in
     let items : c.refill.new.times.items ≡ settled_ends h c.args.reading.now.subject.now.present.moment e =
     c.in_ok-refill.ensures
-    ∙ c.ends.ensures.model h c.args.reading.now.subject.now.present.moment e (record { rows = c.instances.ensures.rows; known = here }) in
+    ∙ c.ends_at.ensures h c.args.reading.now.subject.now.present.moment e (record { rows = c.instances.ensures.rows; here = c.requires.here ∙ here }) in
     let syncs : c.side.result.now ≡ syncs_of h.nodes End e = c.side.ensures ∙ ap (syncs_on End) (c.requires.row_is e here) in
     let serial : c.args.reading.now.subject.now.present.who ≡ e.serial = sym (stands (elements h.nodes) c.args.reading.now.subject.now.present.who e here).serial in
     on_ok_weaker c.pour.result

@@ -11,7 +11,7 @@ use Rattle.smil_instances.proofs.additions.adds_of.Goals.{in-Some+in_ok-push, in
 
 pub given_to-requires-clause-on : goal.given_to-requires-clause-on
 given_to-requires-clause-on c = λ before y q.
-    c.subject-on.ensures ∙ ap (λ (z : Entry). subject_of c.args.arrival.now.history.log.now z.step) (c.last_entry.ensures.value before y q)
+    c.subject-on.ensures ∙ ap (λ (z : Entry). subject_of c.args.arrival.now.history.log.now z.step) (c.last_entry-step.ensures.value before y q)
 
 pub loop-cell-preserved : goal.loop-cell-preserved
 loop-cell-preserved c = λ before y q.

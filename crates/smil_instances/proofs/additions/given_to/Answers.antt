@@ -14,8 +14,8 @@ returns-then-not-may_give c = λ before y q.
     let source = c.source-source.ensures ∙ c.requires.dependents.sources c.args.cell in
     sym (none_given h y c.args.cell
     (ap (λ (on : Option ℕ). may_give on y.step (source_at h.nodes c.args.cell)) (sym (c.requires.on before y q))
-    ∙ ap (λ (x : Entry). may_give c.args.on x.step (source_at h.nodes c.args.cell)) (sym (c.last_entry.ensures.value before y q))
-    ∙ ap (may_give c.args.on c.last_entry.result.step) (sym source)
+    ∙ ap (λ step. may_give c.args.on step (source_at h.nodes c.args.cell)) (sym (c.requires.step before y q))
+    ∙ ap (may_give c.args.on c.args.step) (sym source)
     ∙ sym c.may_give.ensures ∙ c.if-not-may_give.true))
 
 pub returns-in_err-who : goal.returns-in_err-who

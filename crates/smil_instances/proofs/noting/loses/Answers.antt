@@ -3,7 +3,17 @@ use Rattle.smil_instance_rows.specs.Changes.{cell_of}
 use Rattle.smil_instances.specs.declared.remainder.Remainder.{Remainder}
 use Rattle.smil_instances.specs.Noted.{kept_by}
 use Rattle.smil_instances.proofs.ConcernedCells.{base_there, cell_known, item_there, trimmed_here}
+use Rattle.smil_instances.specs.Intake.{history_of}
+use Rattle.smil_instances.proofs.IdleCells.{idle_keeps_all}
 use Rattle.smil_instances.proofs.noting.loses.Goals as goal
+
+pub is_idle-requires : goal.is_idle-requires
+is_idle-requires c = item_there c.args.arrival.now.history.tree.now.nodes c.args.rows.now c.args.cell c.requires.rows c.requires.cell
+
+pub returns-then-is_idle : goal.returns-then-is_idle
+returns-then-is_idle c = λ idle log.
+    idle_keeps_all (history_of c.args.arrival.now.history.tree.now log c.args.arrival.now.history.book.now) c.args.rows.now c.args.cell
+    (c.is_idle.ensures c.if-is_idle.true)
 
 pub remainder_of-requires-clause-cell : goal.remainder_of-requires-clause-cell
 remainder_of-requires-clause-cell c =

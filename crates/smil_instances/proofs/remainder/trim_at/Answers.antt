@@ -5,7 +5,16 @@ use Rattle.smil_instances.specs.Updates.{remaining}
 use Rattle.smil_instances.specs.Intake.{history_of, IsCellOf, shape_of}
 use Rattle.smil_instances.proofs.RowShapes.{cell_shape}
 use Rattle.smil_instances.proofs.ConcernedCells.{base_there, cell_known, item_there, trimmed_here}
+use Rattle.smil_instances.proofs.IdleCells.{idle_stays}
 use Rattle.smil_instances.proofs.remainder.trim_at.Goals as goal
+
+pub is_idle-requires : goal.is_idle-requires
+is_idle-requires c = item_there c.args.arrival.now.history.tree.now.nodes c.args.rows.now c.args.cell c.requires.rows c.requires.cell
+
+pub returns-then-is_idle-clause-value : goal.returns-then-is_idle-clause-value
+returns-then-is_idle-clause-value c = λ log.
+    idle_stays (history_of c.args.arrival.now.history.tree.now log c.args.arrival.now.history.book.now) c.args.rows.now c.args.cell
+    (c.is_idle.ensures c.if-is_idle.true)
 
 pub trim-requires-clause-has : goal.trim-requires-clause-has
 trim-requires-clause-has c = item_there c.args.arrival.now.history.tree.now.nodes c.args.rows.now c.args.cell c.requires.rows c.requires.cell

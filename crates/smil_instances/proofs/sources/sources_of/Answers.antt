@@ -15,7 +15,7 @@ loop-item-preserved c =
     let item = c.item-item.result in
     let there : slice_get items i ≡ Some item =
     ap (λ (xs : List Item). slice_get xs i) (sym c.slice-item-items.ensures) ∙ slice_get-get_or c.slice-item-items.result.now i item c.loop-item-test.true ∙ ap Some (sym c.item-item.is) in
-    c.in_ok-push.ensures.items ∙ ap (λ xs. xs ++ c.in_ok-source_of.field-0 ∷ []) c.loop-item.invariant
+    c.in_ok-push.ensures.ok ∙ ap (λ xs. xs ++ c.in_ok-source_of.field-0 ∷ []) c.loop-item.invariant
     ∙ ap (λ s. map f (take i items) ++ s ∷ []) c.in_ok-source_of.ensures
     ∙ sym (map_next f items i item there)
 

@@ -11,7 +11,7 @@ abbrev idle_at : ℕ → Option ℕ → NodeClock
 idle_at serial parent = record { serial = serial; parent = parent; paused = false; clock = Runs (pos 0) }
 
 pub loop-node-init : goal.loop-node-init
-loop-node-init c = (walk_begun _ _ (c.into_iter-node-iterator.ensures.into_iter_gives ∙ c.nodes-node-items.ensures), c.new-clocks.ensures.items)
+loop-node-init c = (walk_begun _ _ (c.into_iter-node-iterator.ensures.into_iter_gives ∙ c.nodes-node-items.ensures), c.in_ok-clocks.ensures.items)
 
 pub parent_place-requires : goal.parent_place-requires
 parent_place-requires c = ap is_some (is_found c.args.tree.now.nodes c.loop-node.node-iterator c.in-Some.node.now c.next.new.self c.loop-node.invariant.0 c.in-Some.ensures.steps c.requires.distinct)

@@ -1,7 +1,7 @@
 use Rattle.std.proofs.Common.{◌≤ℤ◌, ◌∙◌, ap, refl, subst, sym, arith, ℤ, w64, to_z, of_z, pos}
 use Rattle.std.proofs.lemmas.Int.{ints, to_z-of_z}
 use Rattle.smil_model.specs.declared.times.TheConstants.{HORIZON}
-use Rattle.smil_model.specs.document.Document.{elements}
+use Rattle.smil_model.specs.document.Document.{elements, serials}
 use Rattle.smil_past.specs.Past.{MarkedHistory}
 use Rattle.smil_rounds.proofs.RowsEmpty.{empty_serials}
 use Rattle.smil_rounds.proofs.RowsBesideElements.{serials_in}
@@ -18,5 +18,6 @@ returns-clause-sound c =
       within = subst (λ (z : ℤ). pos 0 ≤ℤ z) same c.requires.from;
       horizon = subst (λ (z : ℤ). z ≤ℤ HORIZON) same c.requires.within;
       reached = (0, refl);
-      of_elements = ap serials_in c.in_ok-known.ensures ∙ empty_serials (elements c.in_ok-tree.tree.nodes);
+      of_elements = ap serials_in c.in_ok-known.ensures ∙ empty_serials (elements c.in_ok-past.past.document.nodes)
+          ∙ ap (λ (p : MarkedHistory). serials (elements p.document.nodes)) c.in_ok-past.ensures;
     })

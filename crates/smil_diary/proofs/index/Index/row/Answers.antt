@@ -1,6 +1,7 @@
-use Rattle.std.proofs.Common.{◌≡◌, ◌∙◌, ap, sym, refl, cond, Some, None, length, arith}
-use Rattle.std.specs.Prelude.{◌==◌, ◌++◌, ◌∷◌, []}
+use Rattle.std.proofs.Common.{◌≡◌, ◌∙◌, ◌-◌, ap, sym, refl, cond, take, Some, None, length, arith}
+use Rattle.std.specs.Prelude.{◌==◌, ◌++◌, ◌∷◌, [], vec_len}
 use Rattle.std.specs.FinMap.{get}
+use Rattle.std.proofs.Math.Seq.{take-append_seam}
 use Rattle.std.proofs.lemmas.Bool.{eq-eqb}
 use Rattle.smil_diary.specs.ElementPlaces.{kept, nothing, row_of}
 use Rattle.smil_diary.proofs.IndexRows.{kept_pushed, row_pushed}
@@ -18,6 +19,19 @@ invariant_of-self-in-Ok c =
           ∙ (λ i. cond (who == s) (Some (number i)) (c.self.invariant.0 s i))
           ∙ row_pushed items who s none
           ∙ ap (λ es. row_of es s) (sym new),
+      c.self.invariant.1,
+    )
+
+pub invariant_of-self-in-Err : goal.invariant_of-self-in-Err
+invariant_of-self-in-Err c =
+    let items = c.self.inside.elements.items in
+    let count : vec_len c.push.new.self - 1 ≡ length items = omega (arith, c.in_ok-push.ensures.len, c.self.inside.elements.ok.0) in
+    let back : c.pop.new.self.items ≡ items =
+    c.pop.ensures.rest
+    ∙ ap (λ n. take n c.push.new.self.items) count
+    ∙ ap (take (length items)) c.in_ok-push.ensures.items
+    ∙ take-append_seam items ((c.args.who, c.new.result) ∷ []) in (
+      λ s. ap (λ t. get t s) c.in-Err.ensures.err ∙ c.self.invariant.0 s ∙ ap (λ es. row_of es s) (sym back),
       c.self.invariant.1,
     )
 

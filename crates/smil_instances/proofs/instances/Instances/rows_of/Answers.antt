@@ -1,8 +1,11 @@
-use Rattle.std.proofs.Common.{◌∙◌, sym, ap, refl, subst, ◌∷◌, ◌++◌, [], List, get_or, length, take, arith}
+use Rattle.std.proofs.Common.{◌∙◌, sym, ap, refl, subst, ℕ, ◌∷◌, ◌++◌, [], List, get_or, length, take, arith}
 use Rattle.std.proofs.lemmas.List.{take_all}
 use Rattle.smil_model.specs.declared.diary.Entry.{Entry}
 use Rattle.smil_stretch.specs.Clocks.{AreClocksOf}
 use Rattle.smil_stretch.proofs.IdleClocks.{next_at, no_entry}
+use Rattle.std.specs.FinMap.{get}
+use Rattle.smil_model.specs.document.Document.{elements, serials}
+use Rattle.smil_instances.specs.Spread.{IsIndex}
 use Rattle.smil_instances.specs.SettledTimes.{settled_rows}
 use Rattle.smil_instances.specs.Intake.{history_of, history_with}
 use Rattle.smil_instances.proofs.DiaryTakenIn.{at_hand, lawful_of, next_front, next_is, next_lawful}
@@ -13,6 +16,11 @@ of-requires c = record {
   past = history_of c.args.history.now.tree.now [] [];
   history = record { same_nodes = refl; same_diary = sym c.new-front.ensures; lawful = record { moments = refl; steps = tt } };
 }
+
+pub idle_rows-requires-clause-places : goal.idle_rows-requires-clause-places
+idle_rows-requires-clause-places c =
+    subst (λ table. IsIndex (serials (elements c.args.history.now.tree.now.nodes)) (get table)) (sym c.in_ok-places.ensures.ok)
+    (subst (λ (whos : List ℕ). IsIndex whos (get c.in_ok-places_of.field-0)) c.elements.ensures c.in_ok-places_of.ensures)
 
 pub take_in-requires-clause-hand : goal.take_in-requires-clause-hand
 take_in-requires-clause-hand c =

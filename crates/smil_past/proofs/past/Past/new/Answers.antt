@@ -1,4 +1,4 @@
-use Rattle.std.proofs.Common.{◌≡◌, sym, subst, []}
+use Rattle.std.proofs.Common.{rules, ◌≡◌, ◌∙◌, sym, subst, []}
 use Rattle.std.specs.Prelude.{IfOk}
 use Rattle.std.proofs.lemmas.Result.{IfOk-at_ok}
 use Rattle.std.specs.FinMap.{get}
@@ -7,6 +7,12 @@ use Rattle.smil_instances.specs.Instances.{IsSettled}
 use Rattle.smil_instances.specs.Spread.{IsIndex}
 use Rattle.smil_past.specs.Past.{IsPossible, MarkedHistory, unmarked}
 use Rattle.smil_past.proofs.past.Past.new.Goals as goal
+
+pub new-requires : goal.new-requires
+new-requires c =
+    let same : c.in_ok-places.places.value ≡ c.in_ok-clone.field-0.value = search rules in
+    subst (λ table. IsIndex (serials (elements c.tree-2.result.now.nodes)) (get table)) same
+    (subst (λ (d : Document). IsIndex (serials (elements d.nodes)) (get c.in_ok-places.places.value)) (c.tree.ensures ∙ sym c.tree-2.ensures) c.in_ok-places.ensures)
 
 pub over-requires-clause-possible : goal.over-requires-clause-possible
 over-requires-clause-possible c =

@@ -1,4 +1,4 @@
-use Rattle.std.proofs.Common.{sym, ◌∙◌, ap, subst, List, None, ◌∷◌, ◌++◌, [], get_or}
+use Rattle.std.proofs.Common.{rules, ◌≡◌, sym, ◌∙◌, ap, subst, List, None, ◌∷◌, ◌++◌, [], get_or}
 use Rattle.std.proofs.lemmas.List.{take_all}
 use Rattle.std.proofs.lemmas.Option.{slice_get-get_or}
 use Rattle.std.proofs.lemmas.Result.{IfOk-at_ok}
@@ -15,9 +15,15 @@ use Rattle.smil_past.specs.Past.{MarkedHistory, MayFollow, with_diary}
 use Rattle.smil_past.proofs.FirstEntries.{follows_at, possible_before}
 use Rattle.smil_past.proofs.past.Past.revised.Goals as goal
 
-pub revised-requires : goal.revised-requires
-revised-requires c =
+pub revised-requires-clause-dependents : goal.revised-requires-clause-dependents
+revised-requires-clause-dependents c =
     subst (λ (d : Document). AreDependentsOf d.nodes c.instances.result.now.dependents) (sym c.tree-2.ensures) c.instances.ensures.dependents
+
+pub revised-requires-clause-places : goal.revised-requires-clause-places
+revised-requires-clause-places c =
+    let same : c.in_ok-places.places.value ≡ c.in_ok-shared.shared.value = search rules in
+    subst (λ table. IsIndex (serials (elements c.tree-3.result.now.nodes)) (get table)) same
+    (subst (λ (d : Document). IsIndex (serials (elements d.nodes)) (get c.in_ok-places.places.value)) (c.tree.ensures ∙ sym c.tree-3.ensures) c.in_ok-places.ensures)
 
 pub over-requires-clause-places : goal.over-requires-clause-places
 over-requires-clause-places c =

@@ -6,7 +6,7 @@ use Rattle.smil_tree.proofs.NodeWalks.{is_found, mapped_on, walk_begun, walk_on,
 use Rattle.smil_past.proofs.queues.classes.classes_of.Goals as goal
 
 pub loop-node-init : goal.loop-node-init
-loop-node-init c = (walk_begun _ _ (c.into_iter-node-iterator.ensures.into_iter_gives ∙ c.nodes-node-items.ensures), c.new-classes.ensures.items)
+loop-node-init c = (walk_begun _ _ (c.into_iter-node-iterator.ensures.into_iter_gives ∙ c.nodes-node-items.ensures), c.in_ok-classes.ensures.items)
 
 pub class_of-requires : goal.class_of-requires
 class_of-requires c = ap is_some (is_found c.args.tree.now.nodes c.loop-node.node-iterator c.in-Some.node.now c.next.new.self c.loop-node.invariant.0 c.in-Some.ensures.steps c.valid.ensures.numbered.distinct)

@@ -5,7 +5,7 @@ use Rattle.smil_tree.proofs.NodeWalks.{mapped_on, walk_begun, walk_on, walk_over
 use Rattle.smil_past.proofs.queues.lines.empty_queues.Goals as goal
 
 pub loop-node-init : goal.loop-node-init
-loop-node-init c = (walk_begun _ _ (c.into_iter-node-iterator.ensures.into_iter_gives ∙ c.nodes-node-items.ensures), c.new-queues.ensures.items)
+loop-node-init c = (walk_begun _ _ (c.into_iter-node-iterator.ensures.into_iter_gives ∙ c.nodes-node-items.ensures), c.in_ok-queues.ensures.items)
 
 pub loop-node-preserved : goal.loop-node-preserved
 loop-node-preserved c =

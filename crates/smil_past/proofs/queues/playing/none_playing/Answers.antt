@@ -5,7 +5,7 @@ use Rattle.smil_past.proofs.PlayingChildren.{none_line}
 use Rattle.smil_past.proofs.queues.playing.none_playing.Goals as goal
 
 pub loop-node-init : goal.loop-node-init
-loop-node-init c = (walk_begun _ _ (c.into_iter-node-iterator.ensures.into_iter_gives ∙ c.nodes-node-items.ensures), c.new-playing.ensures.items)
+loop-node-init c = (walk_begun _ _ (c.into_iter-node-iterator.ensures.into_iter_gives ∙ c.nodes-node-items.ensures), c.in_ok-playing.ensures.items)
 
 pub loop-node-preserved : goal.loop-node-preserved
 loop-node-preserved c =

@@ -11,4 +11,4 @@ invariant_of-self c =
     let rows = c.self.inside.rows.items in
     let at = ap (position (λ (r : CurrentRow). r.serial == c.args.row.serial)) c.self.view_is ∙ c.requires.place in
     let is = first_of_position c.args.row.serial rows c.args.place c.args.row at in
-    (near_set c.args.row rows c.args.place c.requires.near c.self.invariant.0, places_same (get c.self.inside.places) rows _ (set_serials c.args.row rows c.args.place is) c.self.invariant.1)
+    (near_set c.args.row rows c.args.place c.requires.near c.self.invariant.0, places_same (get c.self.inside.places.value) rows _ (set_serials c.args.row rows c.args.place is) c.self.invariant.1)

@@ -9,7 +9,7 @@ pub invariant_of-self : goal.invariant_of-self
 invariant_of-self c =
     let items = c.self.inside.clocks.items in
     let is = take_at c.reset_each.new.clocks _ c.self.inside.clocks.len (omega (arith, c.reset_each.auto.clocks, c.deref_mut.ensures.len)) ∙ c.reset_each.ensures ∙ ap (map reset_clock) c.deref_mut.ensures.value in (
-      subst (ArePlacesOf (get c.self.inside.places)) (sym is) (reset_places (get c.self.inside.places) items c.self.invariant.0),
+      subst (ArePlacesOf (get c.self.inside.places.value)) (sym is) (reset_places (get c.self.inside.places.value) items c.self.invariant.0),
       subst AllFit (sym is) (reset_fit items),
     )
 

@@ -19,7 +19,7 @@ use Rattle.smil_stretch.proofs.clocks.Clocks.turn.Goals as goal
 
 pub unwrap-place-requires : goal.unwrap-place-requires
 unwrap-place-requires c =
-    (ap is_some (c.get.ensures ∙ c.self.invariant.0 c.args.who ∙ ap (position (λ (n : NodeClock). n.serial == c.args.who)) c.self.view_is)
+    (ap is_some (c.get.ensures ∙ ap (λ places. get places c.args.who) c.deref.ensures ∙ c.self.invariant.0 c.args.who ∙ ap (position (λ (n : NodeClock). n.serial == c.args.who)) c.self.view_is)
     ∙ known_place c.args.self.now c.requires.follows.past c.args.who c.requires.follows.known c.requires.turns.known)
 
 pub refresh-requires-clause-moment : goal.refresh-requires-clause-moment
@@ -31,7 +31,7 @@ turned c h y are lawful turns same =
     let k = c.unwrap-place.result in
     let e = c.index_mut.result.now in
     let after = clocks_of (with_entry h y) in
-    let table : Some k ≡ position (λ (n : NodeClock). n.serial == c.args.who) c.self.inside.clocks.items = sym c.unwrap-place.ensures ∙ c.get.ensures ∙ c.self.invariant.0 c.args.who in
+    let table : Some k ≡ position (λ (n : NodeClock). n.serial == c.args.who) c.self.inside.clocks.items = sym c.unwrap-place.ensures ∙ c.get.ensures ∙ ap (λ places. get places c.args.who) c.deref.ensures ∙ c.self.invariant.0 c.args.who in
     let at : Some k ≡ position (λ (n : NodeClock). n.serial == c.args.who) c.args.self.now = table ∙ ap (position (λ (n : NodeClock). n.serial == c.args.who)) c.self.view_is in
     let less : k < length c.self.inside.clocks.items = (position-Some (λ (n : NodeClock). n.serial == c.args.who) c.self.inside.clocks.items k e (sym table)).0 in
     let here : slice_get c.args.self.now k ≡ Some e = ap (λ cs. slice_get cs k) (sym c.self.view_is) ∙ slice_get_read c.self.inside.clocks.items (length c.self.inside.clocks.items) k e refl less c.index_mut.ensures.value in
@@ -47,9 +47,9 @@ invariant_of-self c =
     let y = c.requires.entry in
     let are = c.requires.follows.known in
     let now = take_at c.refresh.new.clocks _ c.self.inside.clocks.len (omega (arith, c.refresh.auto.clocks, c.deref_mut.ensures.len)) ∙ turned c h y are c.requires.follows.lawful c.requires.turns c.requires.at in (
-      subst (ArePlacesOf (get c.self.inside.places)) (sym now)
-          (places_same (get c.self.inside.places) h (with_entry h y) h.nodes
-          (subst (ArePlacesOf (get c.self.inside.places)) (c.self.view_is ∙ are.value) c.self.invariant.0)),
+      subst (ArePlacesOf (get c.self.inside.places.value)) (sym now)
+          (places_same (get c.self.inside.places.value) h (with_entry h y) h.nodes
+          (subst (ArePlacesOf (get c.self.inside.places.value)) (c.self.view_is ∙ are.value) c.self.invariant.0)),
       subst AllFit (sym now) (all_fit (with_entry h y) h.nodes c.requires.follows.lawful),
     )
 
