@@ -1,4 +1,5 @@
 pub mod TournamentWinner
+pub mod KeyNumbers
 pub mod ElementsCounted
 pub mod RisingRanks
 pub mod TouchedInReach
@@ -7,6 +8,7 @@ pub mod ElementRanks
 pub mod RankGap
 pub mod IntervalsApart
 pub mod RowAtElement
+pub mod NearKeys
 pub mod RowsBefore
 pub mod AgendaStep
 pub mod EvaluatedOnce

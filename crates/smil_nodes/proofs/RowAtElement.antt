@@ -39,7 +39,7 @@ current_elements rows h now are = current.current_elements h now rows (set.from_
 
 -- ---- the current interval of an element is given by those of all
 
-fixed : (h : History) (now : ℤ) (e : Node) → ParentsBefore (reverse h.nodes) → node_at (elements h.nodes) e.serial ≡ Some e → current_interval h now e.serial ≡ interval_given h (current_interval h now) now e
+pub fixed : (h : History) (now : ℤ) (e : Node) → ParentsBefore (reverse h.nodes) → node_at (elements h.nodes) e.serial ≡ Some e → current_interval h now e.serial ≡ interval_given h (current_interval h now) now e
 fixed h now e first here =
     let n = length (elements h.nodes) in
     let next : n + 1 ≡ suc n = omega arith in

@@ -1,56 +1,82 @@
--- Slots that each have a key or none.
-use Rattle.std.specs.Prelude.{◌≡◌, ◌≢◌, ℕ, ◌+◌, ◌-◌, ◌*◌, ◌/◌, ◌%◌, ◌^◌, ◌<◌, ℤ, pos, List, filter_map, Option, Some, None, ◌==◌, if◌then◌else◌}
+-- The numbers of keys, and slots that each have a number or none.
+use Rattle.std.specs.Prelude.{◌≡◌, ℕ, ◌+◌, ◌-◌, ◌*◌, ◌/◌, ◌%◌, ◌^◌, ◌<◌, nat_lt, ℤ, pos, neg_ℤ, nat_abs, ◌+ℤ◌, ◌≤ℤ◌, int_lt, List, fold, Bool, true, false, Option, Some, None, ◌==◌, if◌then◌else◌}
+use Rattle.std.proofs.Common.{refl, sym}
+use Rattle.std.proofs.lemmas.Bool.{eqb-true}
 use Rattle.smil_model.specs.declared.happening.Key.{Key}
 use Rattle.smil_model.specs.declared.happening.TheConstants.{BEGIN_CLASS}
-use Rattle.smil_model.specs.happening.Keys.{comes_before}
 use Rattle.smil_nodes.specs.declared.due_tree.Slot.TheInside.{Inside}
 
--- the keys in the slots, in their order
-abbrev pub keys_in : List (Option Key) → List Key
-keys_in slots = filter_map (λ (slot : Option Key). slot) slots
+-- ---- numbers that may each be absent
 
--- the earlier of two keys that may each be absent; of two that tie the first
-abbrev pub earlier_of : Option Key → Option Key → Option Key
+-- the lesser of two
+abbrev pub earlier_of : Option ℕ → Option ℕ → Option ℕ
 earlier_of None second = second
 earlier_of (Some one) None = Some one
-earlier_of (Some one) (Some other) = if comes_before other one then Some other else Some one
+earlier_of (Some one) (Some other) = if nat_lt other one then Some other else Some one
 
--- ---- a slot in numbers
+-- the least of many
+abbrev pub least_number : List (Option ℕ) → Option ℕ
+least_number numbers = fold earlier_of None numbers
+
+-- ---- the numbers of keys
+
+-- a moment as a number from 0, told apart from others up to 2^44 from 0
+abbrev pub moment_number : ℤ → ℕ
+moment_number value =
+    if int_lt value (neg_ℤ (pos (2 ^ 44)))
+    then 0
+    else (if int_lt value (pos (2 ^ 44)) then nat_abs (value +ℤ pos (2 ^ 44)) else 2 ^ 45 - 1)
 
 -- the turn of a place among those of a class, and the place of a turn:
 -- begins in document order, all others against it
 abbrev pub turned : ℕ → ℕ → ℕ
-turned class place = if class == BEGIN_CLASS then place else 2 ^ 32 - 1 - place
+turned class place = if class == BEGIN_CLASS then place else 2 ^ 13 - 1 - place
 
--- the number by which keys of one moment are compared
-abbrev pub order_of : Key → ℕ
-order_of key =
-    (key.class * 2 ^ 32 + turned key.class key.position) * 2 + (if key.repeat then 1 else 0)
+-- the number by which a key is compared: its moment, its class, its turn and whether it repeats
+abbrev pub number_of : Key → ℕ
+number_of key =
+    ((moment_number key.value * 4 + key.class % 4) * 2 ^ 13
+    + turned (key.class % 4) (key.position % 2 ^ 13)) * 2
+    + (if key.repeat then 1 else 0)
 
--- behind the numbers of all keys
-abbrev pub no_key : ℕ
-no_key = 2 ^ 64 - 1
+-- the place that a key with a number has
+abbrev pub place_in : ℕ → ℕ
+place_in number = turned (number / 2 / 2 ^ 13 % 4) (number / 2 % 2 ^ 13)
 
-abbrev pub last_moment : ℤ
-last_moment = pos (2 ^ 63 - 1)
+-- whether a key with a number repeats
+abbrev pub repeats : ℕ → Bool
+repeats number = number % 2 == 1
 
-abbrev pub key_in : Inside → Option Key
-key_in slot =
-    if slot.order == no_key
-    then None
-    else Some (record {
-      value = slot.value;
-      class = slot.order / 2 / 2 ^ 32;
-      position = turned (slot.order / 2 / 2 ^ 32) (slot.order / 2 % 2 ^ 32);
-      serial = slot.serial;
-      repeat = slot.order % 2 == 1;
-    })
+-- a key whose number tells it from all others of one document
+pub record IsNearKey (key : Key) : Type 0 where
+  pub low : neg_ℤ (pos (2 ^ 44)) ≤ℤ key.value
+  pub high : key.value ≤ℤ pos (2 ^ 44 - 1)
+  pub class : key.class < 4
+  pub place : key.position < 2 ^ 13
 
-abbrev pub slot_with : Option Key → Inside
-slot_with None = record { value = last_moment; order = no_key; serial = 0 }
-slot_with (Some key) = record { value = key.value; order = order_of key; serial = key.serial }
+-- ---- a slot
 
--- the numbers are those of what it has, and that of a key has a class
-pub record IsSlot (slot : Inside) : Type 0 where
-  pub back : slot_with (key_in slot) ≡ slot
-  pub class : slot.order ≢ no_key → slot.order / 2 / 2 ^ 32 < 256
+-- in place of a number where a slot has none
+abbrev pub no_number : ℕ
+no_number = 2 ^ 64 - 1
+
+-- a number that a slot may have
+abbrev pub IsNumber : ℕ → Type 0
+IsNumber number = number < no_number
+
+abbrev pub slot_number : Inside → Option ℕ
+slot_number slot = if slot.number == no_number then None else Some slot.number
+
+abbrev pub slot_with : Option ℕ → Inside
+slot_with None = record { number = no_number }
+slot_with (Some number) = record { number = number }
+
+-- a slot is the one with its number
+pub slot_back : (slot : Inside) → slot_with (slot_number slot) ≡ slot
+slot_back slot =
+    elim (slot.number == no_number)
+    as (λ (t : Bool). slot.number == no_number ≡ t
+    → slot_with (if t then None else Some slot.number) ≡ slot) [
+      | true ↦ λ e. λ i. record { number = sym (eqb-true slot.number no_number e) i }
+      | false ↦ λ e. refl
+    ] refl

@@ -26,8 +26,8 @@ use std::marker::Model;
 /// own place, from 0, among the container's time children.
 #[derive(Clone, Copy)]
 pub struct Home {
-    pub container: usize,
-    pub child: usize,
+    pub container: u32,
+    pub child: u32,
 }
 
 /// Of the elements of a document, in document order, the ends of the time children of each, and
@@ -97,7 +97,7 @@ impl Endings {
     {
         match home_in(&self.homes, index) {
             Some(home) => {
-                let end = self.ends[home.container].end(home.child);
+                let end = self.ends[home.container as usize].end(home.child as usize);
                 Ending {
                     first: end.first,
                     latest: end.latest,
@@ -118,7 +118,7 @@ impl Endings {
         let Some(home) = home_in(&self.homes, index) else {
             return;
         };
-        self.ends[home.container].set(home.child, ending.first, ending.latest);
+        self.ends[home.container as usize].set(home.child as usize, ending.first, ending.latest);
     }
 
     /// The implicit duration of the active container with an index, which has this kind and these
@@ -155,7 +155,7 @@ fn homes_of(
 {
     tree.valid();
     let mut nexts = Vec::from_elem(alloc, 0, schedule.rows().len())?;
-    let mut homes = Vec::new(alloc);
+    let mut homes = Vec::with_capacity(alloc, schedule.rows().len())?;
     for row in schedule.rows() {
         homes.push(home_of(tree, schedule, row.serial, &mut nexts))?;
     }
@@ -179,7 +179,10 @@ fn home_of(tree: &Tree, schedule: &Schedule, who: u32, nexts: &mut Vec<usize>) -
     let container = schedule.index_of(parent).unwrap();
     let child = place_among(tree.time_children(parent), who, nexts[container]);
     nexts[container] = child + 1;
-    Some(Home { container, child })
+    Some(Home {
+        container: container as u32,
+        child: child as u32,
+    })
 }
 
 // The place of a serial among others, where it is looked for at an expected place first.
@@ -210,7 +213,7 @@ fn ends_of(alloc: Global, tree: &Tree, schedule: &Schedule) -> Result<Vec<Ends>,
         ≡ map (named_ends tree.now.nodes) (elements tree.now.nodes)) }
 {
     tree.valid();
-    let mut ends = Vec::new(alloc);
+    let mut ends = Vec::with_capacity(alloc, schedule.rows().len())?;
     for row in schedule.rows() {
         let children = children_of(alloc, tree, row.serial)?;
         ends.push(Ends::of(alloc, children, summing_of(tree, row.serial))?)?;
@@ -266,7 +269,7 @@ fn children_of(alloc: Global, tree: &Tree, who: u32) -> Result<Vec<ChildEnd>, Al
         → IfOk result (λ ends. ends.items ≡ named_ends tree.now.nodes e) }
 {
     tree.valid();
-    let mut ends = Vec::new(alloc);
+    let mut ends = Vec::with_capacity(alloc, tree.time_children(who).len())?;
     for child in tree.time_children(who) {
         ends.push(ChildEnd {
             named: is_named(tree.attrs(who), tree.attrs(*child)),

@@ -29,8 +29,7 @@ use super::touched::{Network, note_touched};
 use super::undo::{Note, Undo};
 use smil_cells::{Cells, Since, Table};
 use smil_element::{
-    DueChange, DueChanges, Ending, Intervals, Present, Room, comings_of, ending_of, evaluation_of,
-    is_same_ending, subject_of,
+    DueChange, DueChanges, Ending, Intervals, Present, Room, ending_of, is_same_ending, outcome_of,
 };
 use smil_interval::{Steps, is_same_interval};
 use smil_model::{Duplicate, Interval, PlaceSet, Serials};
@@ -91,7 +90,7 @@ impl Table for LiveTable {
         moment: i64,
         steps: &mut Steps<L>,
     ) -> Result<Self, AllocError> {
-        let schedule = Schedule::of(alloc, past.tree())?;
+        let schedule = Schedule::of(alloc, past)?;
         let mut table = LiveTable {
             endings: Endings::of(alloc, past.tree(), &schedule)?,
             undo: Undo::of(alloc, schedule.rows().len())?,
@@ -271,11 +270,9 @@ impl LiveTable {
             endings: &self.endings,
             index,
         };
-        let subject = subject_of(present);
-        let made = evaluation_of(&subject, &sources, &mut self.room, steps)?;
-        let comings = comings_of(&subject, index as u32, &made);
+        let made = outcome_of(present, index as u32, &sources, &mut self.room, steps)?;
         let ending = ending_kept(&self.endings, index, present, made.interval);
-        self.replace(index, made.interval, &comings, ending)
+        self.replace(index, made.interval, &made.comings, ending)
     }
 
     // Puts an interval, and what comes by it, in the row at an index, and the ending of its

@@ -3,17 +3,18 @@
 ghost use Rattle.std.specs.Prelude.{◌≡◌, ◌==◌, ◌<◌, Some, map, length, slice_get, IfOk, IfSome};
 ghost use Rattle.std.specs.List.{position};
 ghost use Rattle.smil_model.specs.document.Document.{elements};
+ghost use Rattle.smil_model.specs.declared.happening.Key.{Key as AnyKey};
 ghost use Rattle.smil_laws.specs.Near.{IsIntervalNear};
 ghost use Rattle.smil_rounds.specs.declared.current_rows.CurrentRow.{CurrentRow as AnyRow};
-ghost use Rattle.smil_rounds.specs.Rows.{empty_row};
-ghost use Rattle.smil_nodes.specs.Schedule.{ComesFirst, row_put, slot_of};
+ghost use Rattle.smil_rounds.specs.Rows.{IsChosenBy, empty_row};
+ghost use Rattle.smil_nodes.specs.Schedule.{ComesFirst, coming_number, row_put, slot_of};
+ghost use Rattle.smil_nodes.specs.Slots.{IsNumber, earlier_of};
 
-use super::due_tree::DueTree;
-use smil_due::comes_before;
+use super::due_tree::{DueTree, number_of, place_in, repeats};
 use smil_element::{DueChange, DueChanges, Intervals};
 use smil_model::{Duplicate, Interval, Key};
+use smil_past::Past;
 use smil_rounds::current_rows::{CurrentRow, CurrentRows};
-use smil_tree::Tree;
 use std::alloc::{AllocError, Global};
 use std::marker::Model;
 
@@ -22,7 +23,7 @@ use std::marker::Model;
 /// the list of the rows.
 pub struct Schedule {
     known: CurrentRows,
-    /// A slot a row: the key of what comes first of it.
+    /// A slot a row: the number of the key of what comes first of it.
     due: DueTree,
 }
 
@@ -70,11 +71,12 @@ impl Duplicate for Schedule {
 impl Schedule {
     /// The elements of a document without intervals, of which nothing comes, unless memory runs
     /// out.
-    pub fn of(alloc: Global, tree: &Tree) -> Result<Schedule, AllocError>
-        ensures { IfOk result (λ schedule. schedule ≡ map empty_row (elements tree.now.nodes)) }
+    pub fn of(alloc: Global, past: &Past) -> Result<Schedule, AllocError>
+        ensures { IfOk result (λ schedule. schedule
+            ≡ map empty_row (elements past.now.document.nodes)) }
     {
-        tree.valid();
-        let known = CurrentRows::of(alloc, tree)?;
+        past.possible();
+        let known = CurrentRows::of(alloc, past)?;
         let due = DueTree::new(alloc, known.rows().len())?;
         Ok(Schedule { known, due })
     }
@@ -115,26 +117,66 @@ impl Schedule {
             comings: *comings,
         };
         self.known.put(index, row);
-        self.due.set(index, first_key(comings));
+        self.due.set(index, first_number(comings));
     }
 
-    /// What comes first by the rows; where they are current, None exactly where nothing comes. It
-    /// takes no memory.
+    /// What comes first by the rows; where they are current and all keys are near, None exactly where
+    /// nothing comes. It takes no memory.
     pub fn first(&self) -> Option<DueChange>
         ensures { ComesFirst self.now result }
     {
-        self.known.coming(self.due.least()?)
+        let number = self.due.least()?;
+        coming_at(self.known.rows(), place_in(number), repeats(number))
     }
 }
 
-// The key of what comes first, if something does; of two that tie that of the begin or end.
-fn first_key(comings: &DueChanges) -> Option<Key>
-    ensures { result ≡ slot_of comings.now }
+// The number of the key of what comes first, if something does.
+fn first_number(comings: &DueChanges) -> Option<u64>
+    ensures value { result ≡ slot_of comings.now }
+    ensures few { IfSome result IsNumber }
 {
-    match (&comings.moved, &comings.repeat) {
-        (Some(moved), Some(repeat)) if comes_before(repeat.key, moved.key) => Some(repeat.key),
-        (Some(moved), _) => Some(moved.key),
-        (None, Some(repeat)) => Some(repeat.key),
-        (None, None) => None,
+    earlier(number(&comings.moved), number(&comings.repeat))
+}
+
+// The number of the key of what comes, if something does.
+fn number(coming: &Option<DueChange>) -> Option<u64>
+    ensures value { result ≡ coming_number coming.now }
+    ensures few { IfSome result IsNumber }
+{
+    match coming {
+        Some(coming) => Some(number_of(coming.key)),
+        None => None,
+    }
+}
+
+// The lesser of two numbers that may each be absent.
+fn earlier(one: Option<u64>, other: Option<u64>) -> Option<u64>
+    ensures { result ≡ earlier_of one other }
+{
+    match (one, other) {
+        (Some(least), Some(number)) if number < least => other,
+        (Some(_), _) => one,
+        (None, _) => other,
+    }
+}
+
+// What comes of the row at an index: the begin or end where that repeats as asked, else the repeat.
+fn coming_at(rows: &[CurrentRow], index: usize, repeats: bool) -> Option<DueChange>
+    ensures { (row : AnyRow) → slice_get rows.now index ≡ Some row
+        → IsChosenBy (λ (k : AnyKey). k.repeat) repeats row.comings.moved row.comings.repeat
+        result }
+{
+    let row = rows.get(index)?;
+    chosen(repeats, &row.comings)
+}
+
+// Of what comes of an element the begin or end where that repeats as asked, else the repeat.
+fn chosen(repeats: bool, comings: &DueChanges) -> Option<DueChange>
+    ensures { IsChosenBy (λ (k : AnyKey). k.repeat) repeats comings.now.moved comings.now.repeat
+        result }
+{
+    match comings.moved {
+        Some(moved) if moved.key.repeat == repeats => Some(moved),
+        _ => comings.repeat,
     }
 }

@@ -8,7 +8,7 @@ use Rattle.smil_model.specs.document.Defaults.{takes_implicit}
 use Rattle.smil_model.specs.document.Document.{elements, node_at, time_children}
 use Rattle.smil_model.specs.diary.Lawful.{has_element}
 use Rattle.smil_element.proofs.ElementReadings.{parent_known, tree_attrs, tree_node}
-use Rattle.smil_rounds.proofs.RowEvaluated.{found, has_row}
+use Rattle.smil_rounds.proofs.RowEvaluated.{elements_few, found, has_row}
 use Rattle.smil_nodes.specs.Endings.{HasHome}
 use Rattle.smil_nodes.proofs.EndingPlaces.{among_children, few_children, is_home}
 use Rattle.smil_instances.proofs.IdTargets.{element_of}
@@ -65,6 +65,26 @@ returns-then-not-takes_implicit-clause-home c = λ e known under.
 
 pub overflow_add-child : goal.overflow_add-child
 overflow_add-child c =
+    let nodes = c.args.tree.now.nodes in
+    let whos = c.time_children.result.now in
+    let within : c.place_among-child.result < length whos = slice_get_within whos c.place_among-child.result c.args.who c.place_among-child.ensures in
+    let count : length whos ≡ length (time_children nodes c.in_ok-parent.parent) = ap (λ (ss : List ℕ). length ss) c.time_children.ensures ∙ length-map (time_children nodes c.in_ok-parent.parent) (λ (n : Node). n.serial) in
+    let few : length (time_children nodes c.in_ok-parent.parent) ≤ length nodes = few_children nodes c.in_ok-parent.parent in
+    let all : length nodes ≤ 8000 = c.valid.ensures.nodes in
+    omega (arith, within, count, few, all)
+
+-- the index of the container, and the place of the child, are within 32 bits
+pub overflow_cast-result : goal.overflow_cast-result
+overflow_cast-result c =
+    let nodes = c.args.tree.now.nodes in
+    let known = parent_is (goal.at.overflow_cast-result c).In_ok-parent in
+    let above = found nodes c.args.schedule.now c.in_ok-parent.parent c.valid.ensures.numbered.distinct c.requires.of_elements known c.unwrap-container.result (sym c.unwrap-container.ensures ∙ c.index_of.ensures) in
+    let some : length (elements nodes) ≤ length nodes = elements_few nodes in
+    let all : length nodes ≤ 8000 = c.valid.ensures.nodes in
+    omega (arith, above.within, some, all)
+
+pub overflow_cast-result-2 : goal.overflow_cast-result-2
+overflow_cast-result-2 c =
     let nodes = c.args.tree.now.nodes in
     let whos = c.time_children.result.now in
     let within : c.place_among-child.result < length whos = slice_get_within whos c.place_among-child.result c.args.who c.place_among-child.ensures in

@@ -1,32 +1,26 @@
-use Rattle.std.proofs.Common.{◌≡◌, ◌∙◌, ap, sym, subst, List, ◌<◌, ◌≤◌, length, get_or, set, arith}
-use Rattle.std.specs.Prelude.{IfSome, Option, Some, is_some, slice_get, true}
+use Rattle.std.proofs.Common.{◌≡◌, ◌∙◌, ap, sym, List, ◌<◌, ◌≤◌, length, get_or, set, arith}
+use Rattle.std.specs.Prelude.{Option, Some, is_some, slice_get}
 use Rattle.std.proofs.lemmas.Option.{slice_get-get_or}
 use Rattle.std.proofs.lemmas.Result.{on_ok_weaker}
 use Rattle.std.specs.Prelude.{IfOk, OnOk, Result, Ok, Err}
-use Rattle.smil_model.specs.declared.document.Node.{Node}
 use Rattle.smil_model.specs.declared.interval.Interval.{Interval}
-use Rattle.smil_model.specs.document.Document.{elements, node_at}
-use Rattle.smil_model.specs.document.Dependencies.{has_implicit_duration}
-use Rattle.smil_model.specs.happening.Keys.{coming_by}
-use Rattle.smil_laws.specs.Near.{IsIntervalNear}
+use Rattle.smil_model.specs.document.Document.{elements}
 use Rattle.smil_past.specs.Past.{history_of}
-use Rattle.smil_element.specs.declared.present.Present.{Present}
-use Rattle.smil_element.specs.Element.{IsEvaluated, both}
 use Rattle.smil_rounds.specs.declared.current_rows.CurrentRow.{CurrentRow}
 use Rattle.smil_rounds.specs.Current.{interval_in}
 use Rattle.smil_rounds.specs.Round.{IsRowOf}
 use Rattle.smil_rounds.specs.Rows.{row_without}
 use Rattle.smil_rounds.proofs.RowsBesideElements.{interval_at}
-use Rattle.smil_rounds.proofs.RowEvaluated.{IsFound, elements_few, evaluated_near, found, has_row, own_interval, row_made, taken_by}
+use Rattle.smil_rounds.proofs.RowEvaluated.{IsFound, elements_few, found, has_row, own_interval, row_made, taken_by}
 use Rattle.smil_element.specs.Endings.{ending_by}
-use Rattle.smil_nodes.specs.Endings.{KnowsEndsAt, put_ending}
+use Rattle.smil_nodes.specs.Endings.{put_ending}
 use Rattle.smil_nodes.specs.Schedule.{row_put}
 use Rattle.smil_nodes.proofs.RowAtElement.{first_serial}
 use Rattle.smil_nodes.proofs.EndingPlaces.{rows_count}
 use Rattle.smil_nodes.proofs.RowsPutBack.{row_set}
 use Rattle.smil_nodes.proofs.live.LiveTable.evaluate.Given.{Over}
 use Rattle.smil_nodes.proofs.live.LiveTable.evaluate.Goals as goal
-use Rattle.smil_nodes.proofs.live.LiveTable.evaluate.Goals.{After-unwrap-index, In_ok-made, After-comings_of-comings}
+use Rattle.smil_nodes.proofs.live.LiveTable.evaluate.Goals.{After-unwrap-index, In_ok-made}
 
 -- what follows at Ok from two things that hold there
 ok_both : {T E P : Type 0} (r : Result T E) (Q R : T → Type 0) → (P → (x : T) → Q x → R x) → OnOk r P → IfOk r Q → IfOk r R
@@ -40,14 +34,16 @@ found_row g c = found _ _ _ c.possible.ensures.valid.numbered.distinct c.require
 pub unwrap-index-requires : goal.unwrap-index-requires
 unwrap-index-requires g c = ap is_some c.index_of.ensures ∙ has_row _ _ _ c.possible.ensures.valid.numbered.distinct c.requires.of_elements c.requires.element
 
-pub evaluation_of-requires-clause-known : goal.evaluation_of-requires-clause-known
-evaluation_of-requires-clause-known g c =
-    subst (λ (p : Present). (e : Node) → node_at (elements p.past.now.document.nodes) p.who ≡ Some e → has_implicit_duration e ≡ true → KnowsEndsAt c.args.self.now.schedule c.args.self.now.endings (history_of p.past.now) p.who c.unwrap-index.result)
-    (sym c.subject_of-subject.ensures.same)
-    (λ e here implicit. record {
-      known = c.requires.known e here implicit;
-      here = sym (sym c.unwrap-index.ensures ∙ c.index_of.ensures);
-    })
+pub outcome_of-requires-clause-known : goal.outcome_of-requires-clause-known
+outcome_of-requires-clause-known g c = λ e here implicit. record {
+  known = c.requires.known e here implicit;
+  here = sym (sym c.unwrap-index.ensures ∙ c.index_of.ensures);
+}
+
+pub outcome_of-requires-clause-place : goal.outcome_of-requires-clause-place
+outcome_of-requires-clause-place g c =
+    let at = found_row g (goal.at.outcome_of-requires-clause-place g c).After-unwrap-index in
+    at.here ∙ sym at.node
 
 -- the index is one of a row
 within : (g : Over) (c : After-unwrap-index g) → c.unwrap-index.result < length c.args.self.now.schedule
@@ -67,36 +63,19 @@ overflow_cast-index g c =
 pub replace-requires-clause-index : goal.replace-requires-clause-index
 replace-requires-clause-index g c = within g (goal.at.replace-requires-clause-index g c).After-unwrap-index
 
--- the numbers of the interval are near
-near : (g : Over) (c : In_ok-made g) → IfSome (c.in_ok-made.made).interval IsIntervalNear
-near g c =
-    let past = c.args.present.now.past.now in
-    let at = found past.document.nodes c.args.self.now.schedule c.args.present.now.who c.possible.ensures.valid.numbered.distinct c.requires.of_elements c.requires.element c.unwrap-index.result (sym c.unwrap-index.ensures ∙ c.index_of.ensures) in
-    evaluated_near (history_of past) (interval_in c.args.self.now.schedule) c.args.present.now.moment at.element c.in_ok-made.made c.possible.ensures.near
-    (subst (λ (p : Present). (e : Node) → node_at (elements p.past.now.document.nodes) p.who ≡ Some e → IsEvaluated (history_of p.past.now) (interval_in c.args.self.now.schedule) p.moment e c.in_ok-made.made) c.subject_of-subject.ensures.same c.in_ok-made.ensures.made at.element at.node)
-
-pub comings_of-comings-requires-clause-near : goal.comings_of-comings-requires-clause-near
-comings_of-comings-requires-clause-near g c = near g (goal.at.comings_of-comings-requires-clause-near g c).In_ok-made
-
 pub replace-requires-clause-near : goal.replace-requires-clause-near
-replace-requires-clause-near g c = near g (goal.at.replace-requires-clause-near g c).In_ok-made
+replace-requires-clause-near g c = c.in_ok-made.ensures.near
 
 -- the row of what was evaluated
-module _ (g : Over) (c : After-comings_of-comings g) where
+module _ (g : Over) (c : In_ok-made g) where
   at : IsFound c.args.present.now.past.now.document.nodes c.args.self.now.schedule c.args.present.now.who c.unwrap-index.result
   at = found _ _ _ c.possible.ensures.valid.numbered.distinct c.requires.of_elements c.requires.element c.unwrap-index.result (sym c.unwrap-index.ensures ∙ c.index_of.ensures)
 
-  is_made : IsEvaluated (history_of c.args.present.now.past.now) (interval_in c.args.self.now.schedule) c.args.present.now.moment at.element c.in_ok-made.made
-  is_made = subst (λ (p : Present). (e : Node) → node_at (elements p.past.now.document.nodes) p.who ≡ Some e → IsEvaluated (history_of p.past.now) (interval_in c.args.self.now.schedule) p.moment e c.in_ok-made.made) c.subject_of-subject.ensures.same c.in_ok-made.ensures.made at.element at.node
-
-  comes : both c.comings_of-comings.result.moved c.comings_of-comings.result.repeat ≡ coming_by (history_of c.args.present.now.past.now) (c.in_ok-made.made).interval (c.in_ok-made.made).simple c.args.present.now.moment c.unwrap-index.result at.element
-  comes = subst (λ (p : Present). (e : Node) → node_at (elements p.past.now.document.nodes) p.who ≡ Some e → both c.comings_of-comings.result.moved c.comings_of-comings.result.repeat ≡ coming_by (history_of p.past.now) (c.in_ok-made.made).interval (c.in_ok-made.made).simple p.moment c.unwrap-index.result e) c.subject_of-subject.ensures.same c.comings_of-comings.ensures at.element at.node
-
   abbrev made : CurrentRow
-  made = record { serial = c.args.present.now.who; interval = (c.in_ok-made.made).interval; comings = c.comings_of-comings.result }
+  made = record { serial = c.args.present.now.who; interval = (c.in_ok-made.made).interval; comings = (c.in_ok-made.made).comings }
 
   is_row : IsRowOf (history_of c.args.present.now.past.now) (interval_in c.args.self.now.schedule) c.args.present.now.moment c.unwrap-index.result at.element made
-  is_row = row_made (history_of c.args.present.now.past.now) (interval_in c.args.self.now.schedule) c.args.present.now.moment c.unwrap-index.result c.args.present.now.who at.element c.in_ok-made.made c.comings_of-comings.result at.node is_made comes
+  is_row = row_made (history_of c.args.present.now.past.now) (interval_in c.args.self.now.schedule) c.args.present.now.moment c.unwrap-index.result c.args.present.now.who at.element c.in_ok-made.made at.node (c.in_ok-made.ensures.made at.element at.node)
 
   -- the row that was there
   abbrev old : CurrentRow
@@ -117,13 +96,13 @@ module _ (g : Over) (c : After-comings_of-comings g) where
 
 pub returns-clause-taken : goal.returns-clause-taken
 returns-clause-taken g c =
-    let all = (goal.at.returns-clause-taken g c).After-comings_of-comings in
+    let all = (goal.at.returns-clause-taken g c).In_ok-made in
     let rows = c.replace.new.self.schedule in
     on_ok_weaker c.replace.result (λ put. taken_by (history_of c.args.present.now.past.now) c.args.present.now.moment _ _ c.args.self.now.schedule rows (made g all) (at g all) (is_row g all) (put_is g all rows put)) c.replace.ensures.put
 
 pub returns-clause-same : goal.returns-clause-same
 returns-clause-same g c =
-    let all = (goal.at.returns-clause-same g c).After-comings_of-comings in
+    let all = (goal.at.returns-clause-same g c).In_ok-made in
     let rows = c.args.self.now.schedule in
     let new = c.replace.new.self.schedule in
     ok_both c.replace.result _ _
@@ -138,7 +117,7 @@ returns-clause-same g c =
 
 pub returns-clause-ended : goal.returns-clause-ended
 returns-clause-ended g c =
-    let all = (goal.at.returns-clause-ended g c).After-comings_of-comings in
+    let all = (goal.at.returns-clause-ended g c).In_ok-made in
     let who = c.args.present.now.who in
     let new = c.replace.new.self.schedule in
     ok_both c.replace.result _ _

@@ -15,6 +15,7 @@ use Rattle.smil_laws.proofs.RoundsRest.{find-serial}
 use Rattle.smil_rounds.specs.Current.{interval_in}
 use Rattle.smil_nodes.specs.Work.{IsBelow}
 use Rattle.smil_nodes.proofs.TimeChildPlaces.{child_below}
+use Rattle.smil_nodes.proofs.NearKeys.{near_present}
 use Rattle.smil_nodes.proofs.KnownEnds.{all_below, below_next, known_ended, knows, none_below}
 use Rattle.smil_nodes.proofs.AgendaStep.{others_stay}
 use Rattle.smil_nodes.proofs.live.LiveTable.evaluate_all.Goals as goal
@@ -78,6 +79,7 @@ returns-clause-current g c =
           (subst (λ (k : ℕ). AreRowsEvaluated h c.args.moment order k rows) whole taken);
       ends_are =
           all_below h (interval_in rows) order c.loop-who.self.endings c.possible.ensures.valid.numbered.distinct is c.loop-who.who-index c.loop-who-test.false c.loop-who.invariant.3;
+      keys_are = near_present c.args.past.now c.args.moment c.possible.ensures c.requires.moment;
     }
 
 pub returns-in_err-evaluate-clause-most : goal.returns-in_err-evaluate-clause-most

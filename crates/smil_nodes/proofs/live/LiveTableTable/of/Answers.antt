@@ -14,8 +14,7 @@ use Rattle.smil_nodes.proofs.live.LiveTableTable.of.Goals as goal
 
 pub evaluate_all-requires-clause-of_elements : goal.evaluate_all-requires-clause-of_elements
 evaluate_all-requires-clause-of_elements g c =
-    ap serials_in c.in_ok-schedule.ensures ∙ empty_serials (elements c.tree.result.now.nodes)
-    ∙ ap (λ (d : Document). serials (elements d.nodes)) c.tree.ensures
+    ap serials_in c.in_ok-schedule.ensures ∙ empty_serials (elements c.args.past.now.document.nodes)
 
 pub returns-in_err-evaluate_all-clause-most : goal.returns-in_err-evaluate_all-clause-most
 returns-in_err-evaluate_all-clause-most g c =
@@ -28,12 +27,12 @@ returns-clause-least g c =
 
 pub of-requires-2 : goal.of-requires-2
 of-requires-2 g c =
-    ap serials_in c.in_ok-schedule.ensures ∙ empty_serials (elements c.tree.result.now.nodes)
-    ∙ ap (λ (d : Document). serials (elements d.nodes)) (c.tree.ensures ∙ sym c.tree-2.ensures)
+    ap serials_in c.in_ok-schedule.ensures ∙ empty_serials (elements c.args.past.now.document.nodes)
+    ∙ ap (λ (d : Document). serials (elements d.nodes)) (sym c.tree.ensures)
 
 pub evaluate_all-requires-clause-known : goal.evaluate_all-requires-clause-known
 evaluate_all-requires-clause-known g c =
-    let nodes_are : c.tree-2.result.now.nodes ≡ c.args.past.now.document.nodes = ap (λ (d : Document). d.nodes) c.tree-2.ensures in
+    let nodes_are : c.tree.result.now.nodes ≡ c.args.past.now.document.nodes = ap (λ (d : Document). d.nodes) c.tree.ensures in
     none_known (history_of c.args.past.now) (interval_in c.in_ok-schedule.schedule) c.in_ok-of.field-0
     (subst (λ (nodes : List Node). AreHomes nodes c.in_ok-of.field-0.homes) nodes_are c.in_ok-of.ensures.homes)
     (c.in_ok-of.ensures.ends ∙ ap (λ (nodes : List Node). map (named_ends nodes) (elements nodes)) nodes_are)

@@ -21,6 +21,7 @@ use Rattle.smil_nodes.specs.Work.{AreSettled, HasSame, IsCounted, IsUnlisted, ga
 use Rattle.smil_nodes.proofs.RankGap.{gap_falls}
 use Rattle.smil_nodes.proofs.RisingRanks.{taken_out}
 use Rattle.smil_nodes.proofs.RowAtElement.{current_intervals}
+use Rattle.smil_nodes.proofs.NearKeys.{near_present}
 use Rattle.smil_nodes.proofs.RowsBefore.{first_noted, first_reached, settled_first}
 use Rattle.smil_nodes.proofs.AgendaStep.{left_out, others_stay, settled_same, settled_changed}
 use Rattle.smil_nodes.proofs.EvaluatedOnce.{none_counted, one_counted, rank_passed, told_more, told_still}
@@ -244,6 +245,7 @@ returns-clause-current g c =
       ends_are =
           all_unlisted (history_of past) (interval_in c.loop-rank.self.schedule) order c.loop-rank.self.endings c.possible.ensures.valid.numbered.distinct is (has c.loop-rank.self.agenda)
           (λ r. ap (λ (l : List ℕ). has l r) c.in_default.ensures.taken.0) c.loop-rank.invariant.6;
+      keys_are = near_present past c.args.since.now.moment c.possible.ensures c.requires.moment;
     }
 
 pub returns-clause-changed : goal.returns-clause-changed

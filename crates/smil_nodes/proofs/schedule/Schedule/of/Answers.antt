@@ -12,18 +12,18 @@ use Rattle.smil_nodes.proofs.schedule.Schedule.of.Goals as goal
 
 pub new-requires : goal.new-requires
 new-requires c =
-    let few : length c.in_ok-known.known ≤ 8000 = rows_few c.args.tree.now.nodes c.in_ok-known.known c.in_ok-known.ensures c.valid.ensures.nodes in
+    let few : length c.in_ok-known.known ≤ 8000 = rows_few c.args.past.now.document.nodes c.in_ok-known.known c.in_ok-known.ensures c.possible.ensures.valid.nodes in
     let same : length c.rows.result.now ≡ length c.in_ok-known.known = ap length c.rows.ensures in
     omega (arith, few, same)
 
 pub invariant_of-result : goal.invariant_of-result
 invariant_of-result c =
-    let nodes = c.args.tree.now.nodes in
+    let nodes = c.args.past.now.document.nodes in
     let same : length c.rows.result.now ≡ length (map empty_row (elements nodes)) = ap length c.rows.ensures ∙ ap length c.in_ok-known.ensures in
     record {
       near = subst AreNear (sym c.in_ok-known.ensures) (empty_near (elements nodes));
-      few = rows_few nodes c.in_ok-known.known c.in_ok-known.ensures c.valid.ensures.nodes;
-      apart = subst (IsDistinct nat_eq) (sym (ap serials_in c.in_ok-known.ensures ∙ empty_serials (elements nodes))) (elements_distinct nodes c.valid.ensures.numbered.distinct);
+      few = rows_few nodes c.in_ok-known.known c.in_ok-known.ensures c.possible.ensures.valid.nodes;
+      apart = subst (IsDistinct nat_eq) (sym (ap serials_in c.in_ok-known.ensures ∙ empty_serials (elements nodes))) (elements_distinct nodes c.possible.ensures.valid.numbered.distinct);
       slots_are =
           c.in_ok-due.ensures
           ∙ ap (λ n. replicate n None) same

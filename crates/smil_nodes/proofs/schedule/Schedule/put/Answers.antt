@@ -27,10 +27,10 @@ within c = omega (arith, c.requires.index, ap (λ (rows : List CurrentRow). leng
 pub put-requires-clause-place : goal.put-requires-clause-place
 put-requires-clause-place c = let all = (goal.at.put-requires-clause-place c).After-row in placed c.row.result.now.serial c.self.inside.known c.args.index (first all)
 
-pub set-requires : goal.set-requires
-set-requires c =
+pub set-requires-clause-slot : goal.set-requires-clause-slot
+set-requires-clause-slot c =
     let rows = c.self.inside.known in
-    let here : c.args.index < length rows = within (goal.at.set-requires c).After-row in
+    let here : c.args.index < length rows = within (goal.at.set-requires-clause-slot c).After-row in
     let slots : length c.self.inside.due ≡ length rows = ap length c.self.invariant.slots_are ∙ slots_length rows in
     omega (arith, here, slots)
 
@@ -48,7 +48,7 @@ invariant_of-self c =
           c.self.invariant.apart;
       slots_are =
           c.set.ensures
-          ∙ ap (set c.self.inside.due c.args.index) c.first_key.ensures
+          ∙ ap (set c.self.inside.due c.args.index) c.first_number.ensures.value
           ∙ ap (λ slots. set slots c.args.index (slot_of c.args.comings.now)) c.self.invariant.slots_are
           ∙ slots_set rows c.args.index row
           ∙ ap slots_of (sym c.put.ensures);
