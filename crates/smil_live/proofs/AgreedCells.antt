@@ -18,7 +18,7 @@ use Rattle.smil_report.specs.Tellings.{Telling, Tells}
 use Rattle.smil_grammar.specs.Formats.{formats}
 use Rattle.smil_cells.specs.CellsState.{IsRebuilt, MayRebuild, CellsState, WhereTold}
 use Rattle.smil_live.specs.Counted.{IsAtLeast, IsAtMost, KeepsToCounts, IsFree}
-use Rattle.smil_live.specs.Counts.{diary_at, least_between, least_loading, least_seeking, most_between, most_number, most_seeking, reached_behind, told_where}
+use Rattle.smil_live.specs.Counts.{diary_at, least_between, least_editing, least_loading, least_seeking, most_between, most_number, most_seeking, reached_behind, told_where}
 use Rattle.smil_live.specs.Editing.{IsEdited, edit_of}
 use Rattle.smil_shown.specs.ShownViews.{IsPlaying}
 use Rattle.smil_live.specs.Moves.{IsReplayed, IsTooFull, IsUnderWay, edited_to, sought_of}
@@ -94,7 +94,7 @@ most_is p (order.Insert who place line column) d edits = refl
 most_is p (order.Remove who) d edits = refl
 most_is p _ d edits = absurd cc
 
-least_is : (p q : Presentation) (o : Order) → is_edit o ≡ true → least_loading q ≡ least_between p o q
+least_is : (p q : Presentation) (o : Order) → is_edit o ≡ true → least_editing p q ≡ least_between p o q
 least_is p q (order.Set who name value name_column column) edits = refl
 least_is p q (order.Unset who name column) edits = refl
 least_is p q (order.Insert who place line column) edits = refl
@@ -110,14 +110,14 @@ module _ {I : Type 0} (tell : Telling I) where
       (subst (λ (n : ℕ). WhereTold counts (rise ≤ n)) (ap (λ (x : Site). most_resolving p x d) here ∙ (most_is p o d edits ∙ ap (most_between p o) (sym is.state))) most)
 
   edited_least : (r : Result (Unit {0}) Refusal) (counts : Bool) (p q : Presentation) (o : Order) (d : Document) (old new : List I) (rise : ℕ) → is_edit o ≡ true → edit_of p o ≡ Ok d
-      → OnOk r (IsEdited tell p d q old new) → OnOk r (WhereTold counts (least_loading (edited_to p d) ≤ rise)) → OnOk r (IsAtLeast counts p o rise)
+      → OnOk r (IsEdited tell p d q old new) → OnOk r (WhereTold counts (least_editing p (edited_to p d) ≤ rise)) → OnOk r (IsAtLeast counts p o rise)
   edited_least (Err e) counts p q o d old new rise edits edited is least = tt
   edited_least (Ok x) counts p q o d old new rise edits edited is least =
       at_least counts p q o rise (edited_accepted tell p q o d old new edits edited is).state
-      (subst (λ (n : ℕ). WhereTold counts (n ≤ rise)) (ap least_loading (sym is.state) ∙ least_is p q o edits) least)
+      (subst (λ (n : ℕ). WhereTold counts (n ≤ rise)) (ap (least_editing p) (sym is.state) ∙ least_is p q o edits) least)
 
   edited_bounded : (r : Result (Unit {0}) Refusal) (counts : Bool) (p q : Presentation) (o : Order) (d : Document) (at : Site) (old new : List I) (rise : ℕ) → is_edit o ≡ true → edit_of p o ≡ Ok d → at ≡ site_of p.document o
-      → OnOk r (IsEdited tell p d q old new) → OnOk r (WhereTold counts (rise ≤ most_resolving p at d)) → OnOk r (WhereTold counts (least_loading (edited_to p d) ≤ rise)) → IfErr r (IsTooFull (edited_to p d))
+      → OnOk r (IsEdited tell p d q old new) → OnOk r (WhereTold counts (rise ≤ most_resolving p at d)) → OnOk r (WhereTold counts (least_editing p (edited_to p d) ≤ rise)) → IfErr r (IsTooFull (edited_to p d))
       → KeepsToCounts counts p o r rise
   edited_bounded r counts p q o d at old new rise edits edited here is most least refused = record {
     most = edited_most r counts p q o d at old new rise edits edited here is most;
@@ -135,7 +135,7 @@ module _ {I : Type 0} (tell : Telling I) where
     pub bounded : KeepsToCounts counts p o r rise
 
   pub edit_answered : (r : Result (Unit {0}) Refusal) (counts : Bool) (p q : Presentation) (o : Order) (d : Document) (at : Site) (old new : List I) (rise : ℕ) → is_edit o ≡ true → edit_of p o ≡ Ok d → at ≡ site_of p.document o
-      → OnOk r (IsEdited tell p d q old new) → OnOk r (WhereTold counts (rise ≤ most_resolving p at d)) → OnOk r (WhereTold counts (least_loading (edited_to p d) ≤ rise)) → IfErr r (IsTooFull (edited_to p d))
+      → OnOk r (IsEdited tell p d q old new) → OnOk r (WhereTold counts (rise ≤ most_resolving p at d)) → OnOk r (WhereTold counts (least_editing p (edited_to p d) ≤ rise)) → IfErr r (IsTooFull (edited_to p d))
       → IsAnswered r counts p q o old new rise
   edit_answered r counts p q o d at old new rise edits edited here is most least refused = record {
     ok = on_ok_weaker r (edited_accepted tell p q o d old new edits edited) is;

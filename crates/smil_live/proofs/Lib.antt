@@ -32,3 +32,4 @@ pub mod AdvanceChanges
 pub mod ToldAnswers
 pub mod TouchedViews
 pub mod QuietAdvance
+pub mod UnchangedDocuments

@@ -1,5 +1,6 @@
 -- How often an order has intervals evaluated: at most, and at least.
-use Rattle.std.specs.Prelude.{ℕ, ◌+◌, pos, nat_abs, nat_lt, List, drop, length, Bool, true, false, Option, Some, None, Result, Ok, Err}
+use Rattle.std.specs.Prelude.{ℕ, ◌+◌, pos, nat_abs, nat_lt, List, drop, length, Bool, true, false, if◌then◌else◌, Option, Some, None, Result, Ok, Err}
+use Rattle.std.specs.Str.{bytes_eq}
 use Rattle.smil_model.specs.declared.diary.Entry.{Entry}
 use Rattle.smil_model.specs.declared.document.Node.{Node}
 use Rattle.smil_model.specs.declared.interval.Interval.{Interval}
@@ -88,6 +89,15 @@ abbrev pub most_editing : Presentation → Presentation → Order → ℕ
 most_editing before after given =
     element_count after + reached_behind (agreed before after.document given) after
 
+-- whether two documents are saved as the same text
+abbrev pub is_saved_alike : Document → Document → Bool
+is_saved_alike one other = bytes_eq (formats.saved one) (formats.saved other)
+
+-- none where the document stays as it was, and else the elements that then have an interval
+abbrev pub least_editing : Presentation → Presentation → ℕ
+least_editing before after =
+    if is_saved_alike before.document after.document then 0 else least_loading after
+
 -- ---- by the order
 
 -- a backward seek: each element once
@@ -123,10 +133,11 @@ least_between before (order.Seek to) after =
 least_between before (order.Event who name) after = least_onward before after
 least_between before (order.Media who len) after = least_onward before after
 least_between before (order.Key key) after = least_onward before after
-least_between before (order.Set who name value name_column column) after = least_loading after
-least_between before (order.Unset who name column) after = least_loading after
-least_between before (order.Insert who place line column) after = least_loading after
-least_between before (order.Remove who) after = least_loading after
+least_between before (order.Set who name value name_column column) after =
+    least_editing before after
+least_between before (order.Unset who name column) after = least_editing before after
+least_between before (order.Insert who place line column) after = least_editing before after
+least_between before (order.Remove who) after = least_editing before after
 least_between before _ after = 0
 
 -- a refused order has no bound to tell

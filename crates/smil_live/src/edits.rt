@@ -1,6 +1,6 @@
 //! Orders that edit the document.
 
-ghost use Rattle.std.specs.Prelude.{◌≡◌, ◌≤◌, ◌-◌, ◌++◌, drop, length, Ok, Option, OnOk, OnErr, IfOk, IfErr};
+ghost use Rattle.std.specs.Prelude.{◌≡◌, ◌≤◌, ◌-◌, ◌++◌, drop, length, true, Ok, Option, OnOk, OnErr, IfOk, IfErr};
 ghost use Rattle.smil_model.specs.declared.document.Node.{Node as AnyNode};
 ghost use Rattle.smil_model.specs.declared.order.Order.TheVariants as order;
 ghost use Rattle.smil_model.specs.document.Document.{serial_of, time_parent};
@@ -11,7 +11,7 @@ ghost use Rattle.smil_graph.specs.Graph.{document_of};
 ghost use Rattle.smil_report.specs.Tellings.{Begins, Tells, gone_told};
 ghost use Rattle.smil_cells.specs.CellsState.{WhereTold};
 ghost use Rattle.smil_live.specs.Counted.{KeepsToCounts};
-ghost use Rattle.smil_live.specs.Counts.{agreed_under, least_loading, serial_or_0};
+ghost use Rattle.smil_live.specs.Counts.{agreed_under, least_editing, least_loading, serial_or_0};
 ghost use Rattle.smil_live.specs.Editing.{IsEdited, edit_of};
 ghost use Rattle.smil_shown.specs.ShownViews.{IsPlaying};
 ghost use Rattle.smil_live.specs.Moves.{IsReplayed, IsTooFull, edited_to, told_of};
@@ -28,8 +28,8 @@ use smil_interval::Steps;
 use smil_model::{GrowingList, Refusal, Who};
 use smil_report::ChangeItem;
 use smil_revision::{
-    Child, LineText, Revision, Setting, keeps_references, with_child, with_value, without_name,
-    without_node,
+    Child, LineText, Revision, Setting, have_same_attrs, keeps_references, with_child, with_value,
+    without_name, without_node,
 };
 use smil_shown::{Scene, ViewTable, put_all_gone, put_differences};
 use smil_tree::Tree;
@@ -226,7 +226,7 @@ impl<T: Table> PresentationOver<T> {
     }
 
     // Resolves an edited document with the same log from the part of the diary that stays, tells
-    // what is gone and what has changed, and goes on with it.
+    // what is gone and what has changed, and goes on with it; nothing where it is as it was.
     fn take_edited<I: ChangeItem, L: Ledger>(
         &mut self,
         edited: Tree,
@@ -243,10 +243,25 @@ impl<T: Table> PresentationOver<T> {
         ensures most { OnOk result (WhereTold T.counts
             (steps.new - steps.old ≤ most_resolving self.old site edited)) }
         ensures least { OnOk result (WhereTold T.counts
-            (least_loading (edited_to self.old edited) ≤ steps.new - steps.old)) }
+            (least_editing self.old (edited_to self.old edited) ≤ steps.new - steps.old)) }
     {
+        if self.stays_by(&edited, site) {
+            self.settled();
+            return Ok(());
+        }
         let mut cells = self.edited_cells(edited, site, steps)?;
         self.take_over(&mut cells, out)
+    }
+
+    // Whether an edit leaves the document as it was.
+    fn stays_by(&self, edited: &Tree, site: Site) -> bool
+        requires { IsMade self.now.document site edited.now }
+        ensures { result ≡ true → edited.now ≡ self.now.document }
+    {
+        match site {
+            Site::Old(serial) => have_same_attrs(self.viewer.cells.tree(), edited, serial),
+            Site::New => false,
+        }
     }
 
     // Tells which elements other cells have no longer and which views differ by them, and puts them

@@ -3,8 +3,10 @@
 
 mod copies;
 mod references;
+mod same;
 mod values;
 
 pub use copies::{with_child, with_value, without_name, without_node};
 pub use references::{Revision, keeps_references};
+pub use same::have_same_attrs;
 pub use values::{Child, LineText, Setting};

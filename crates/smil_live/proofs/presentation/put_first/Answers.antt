@@ -22,6 +22,6 @@ returns-then-is_err-clause-text g c =
 
 pub returns-clause-answer : goal.returns-clause-answer
 returns-clause-answer g c =
-    told_load g.I.ChangeItem.telling c.args.cells.now c.tree.result.now c.none.result.views c.in_ok-seen.seen.views 0 c.args.out.now c.put_differences.new.out c.requires.replayed.settled
-    c.tree.ensures (ap (λ (x : ViewLists). x.views) c.none.ensures) (ap (λ (x : ViewLists). x.views) c.in_ok-seen.ensures) (sym c.requires.moment)
+    told_load g.I.ChangeItem.telling c.args.cells.now c.tree.result.now c.in_ok-before.before.views c.in_ok-seen.seen.views 0 c.args.out.now c.put_differences.new.out c.requires.replayed.settled
+    c.tree.ensures (ap (λ (x : ViewLists). x.views) c.in_ok-before.ensures) (ap (λ (x : ViewLists). x.views) c.in_ok-seen.ensures) (sym c.requires.moment)
     (where_not_err c.put_differences.result _ (sym c.is_err.ensures.value ∙ c.if-is_err.false) (c.put_differences.ensures.ok 0 refl))

@@ -1,7 +1,9 @@
 use Rattle.std.proofs.Common.{refl}
+use Rattle.std.specs.Fmt.{digits}
 use Rattle.smil_live.proofs.worked.worked_counts.Goals as goal
 
 pub returns : goal.returns
+unfolding digits
 returns c = record {
   load_at_most = refl;
   load_at_least = refl;

@@ -1,10 +1,12 @@
-use Rattle.std.proofs.Common.{◌≡◌, inl, sym, subst}
+use Rattle.std.proofs.Common.{◌≡◌, ◌-◌, inl, sym, subst}
 use Rattle.std.proofs.lemmas.Result.{IfErr-weaker}
 use Rattle.smil_model.specs.declared.order.Refusal.TheVariants as refusal
 use Rattle.smil_model.specs.shown.Orders.{IsState}
 use Rattle.smil_tree.proofs.ResultClauses.{on_err}
 use Rattle.smil_live.specs.Moves.{IsTooFull, edited_to}
+use Rattle.smil_live.specs.Sites.{most_resolving}
 use Rattle.smil_live.proofs.EditedPresentations.{edited_on_ok, on_ok_always, replayed_own}
+use Rattle.smil_live.proofs.UnchangedDocuments.{least_edited, least_stayed, none_told, stayed}
 use Rattle.smil_live.proofs.presentation.PresentationOver.take_edited.Goals as goal
 
 pub take_over-requires-clause-state : goal.take_over-requires-clause-state
@@ -25,7 +27,19 @@ pub returns-clause-most : goal.returns-clause-most
 returns-clause-most g c = on_ok_always c.take_over.result c.in_ok-cells.ensures.most
 
 pub returns-clause-least : goal.returns-clause-least
-returns-clause-least g c = on_ok_always c.take_over.result c.in_ok-cells.ensures.least
+returns-clause-least g c =
+    least_edited c.take_over.result g.T.Table.counts c.args.self.now (edited_to c.args.self.now c.args.edited) (c.edited_cells.new.steps - c.args.steps.now) c.in_ok-cells.ensures.least
+
+pub returns-then-stays_by-clause-ok : goal.returns-then-stays_by-clause-ok
+returns-then-stays_by-clause-ok g c =
+    stayed g.I.ChangeItem.telling c.args.self.now c.args.edited c.args.out.now (c.stays_by.ensures c.if-stays_by.true) c.settled.ensures.state c.settled.ensures.diary
+
+pub returns-then-stays_by-clause-most : goal.returns-then-stays_by-clause-most
+returns-then-stays_by-clause-most g c = none_told g.T.Table.counts c.args.steps.now (most_resolving c.args.self.now c.args.site c.args.edited)
+
+pub returns-then-stays_by-clause-least : goal.returns-then-stays_by-clause-least
+returns-then-stays_by-clause-least g c =
+    least_stayed g.T.Table.counts c.args.self.now c.args.edited (c.args.steps.now - c.args.steps.now) (c.stays_by.ensures c.if-stays_by.true)
 
 pub returns-in_err-cells-clause-refused : goal.returns-in_err-cells-clause-refused
 returns-in_err-cells-clause-refused g c =
