@@ -1,1 +1,2 @@
+pub mod NameMarks
 pub mod PresentationsByName

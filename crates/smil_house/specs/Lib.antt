@@ -1,3 +1,4 @@
 pub mod House
+pub mod Marks
 pub mod Next
 pub mod Screen

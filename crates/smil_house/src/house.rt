@@ -5,6 +5,7 @@ ghost use Rattle.smil_model.specs.declared.order.Refusal.TheVariants as refusal;
 ghost use Rattle.smil_model.specs.shown.Answers.{IsGiven};
 ghost use Rattle.smil_report.specs.Tellings.{is_telling};
 ghost use Rattle.smil_house.specs.House.{place_of, load_refusal, moment_of, named, without, AreKept, IsAnsweredBy, IsRecordedBy, IsRefused, Takes};
+ghost use Rattle.smil_house.specs.Marks.{mark_of};
 ghost use Rattle.smil_house.specs.Next.{NothingChangesBefore, next_in};
 ghost use Rattle.smil_house.specs.Screen.{element_in, found_in};
 
@@ -25,22 +26,26 @@ pub struct NamedPlayer<P> {
 }
 
 /// At most `PRESENTATIONS` presentations, each under its name, seen as the list of them in the
-/// order in which they were loaded.
+/// order in which they were loaded. The marks of their names stand close together, so that a name
+/// is found without a look at each.
 #[derive(Drop)]
 pub struct House<P> {
     held: Vec<NamedPlayer<P>>,
+    marks: Vec<u32>,
 }
 
 impl<P> Model for House<P> {
-    ghost use Rattle.std.specs.Prelude.{List, length, ◌≤◌, vec_capacity};
+    ghost use Rattle.std.specs.Prelude.{◌≡◌, List, length, ◌≤◌, vec_capacity};
     ghost use Rattle.smil_model.specs.declared.limits.TheConstants.{PRESENTATIONS as the_most};
+    ghost use Rattle.smil_house.specs.Marks.{marks_of};
     ghost use Rattle.smil_house.specs.declared.house.NamedPlayer.{NamedPlayer as AnyHeld};
 
     ghost Value = { List (AnyHeld P) };
 
     ghost view = { λ h. h.held.items };
 
-    ghost invariant = { λ h. (length h.held.items ≤ the_most) × (the_most ≤ vec_capacity h.held) };
+    ghost invariant = { λ h. (length h.held.items ≤ the_most) × (the_most ≤ vec_capacity h.held)
+        × (the_most ≤ vec_capacity h.marks) × (h.marks.items ≡ marks_of h.held.items) };
 }
 
 impl<P: Player + Drop> House<P> {
@@ -50,6 +55,7 @@ impl<P: Player + Drop> House<P> {
     {
         Ok(House {
             held: Vec::with_capacity(alloc, PRESENTATIONS)?,
+            marks: Vec::with_capacity(alloc, PRESENTATIONS)?,
         })
     }
 
@@ -74,6 +80,7 @@ impl<P: Player + Drop> House<P> {
         requires { load_refusal name self.old ≡ Ok tt }
         ensures { self.new ≡ self.old ++ record { name = name; player = player } ∷ [] }
     {
+        self.marks.push(mark_of(name.slice())).unwrap();
         self.held.push(NamedPlayer { name, player }).unwrap();
     }
 
@@ -153,6 +160,7 @@ impl<P: Player + Drop> House<P> {
         let Some(index) = self.index_of(name) else {
             return Err(Refusal::NoPresentation);
         };
+        self.marks.remove(index);
         self.held.remove(index);
         Ok(())
     }
@@ -209,6 +217,22 @@ impl<P: Player + Drop> House<P> {
     fn index_of(&self, name: &[u8]) -> Option<usize>
         ensures { result ≡ place_of name.now self.now }
     {
-        self.held.iter().position(|held| held.name.slice() == name)
+        let mark = mark_of(name);
+        for index in 0..self.marks.len() {
+            if self.marks[index] == mark && self.held[index].name.slice() == name {
+                return Some(index);
+            }
+        }
+        None
     }
+}
+
+// The mark of a name: a number that follows from its bytes, so that names of different marks
+// differ.
+fn mark_of(name: &[u8]) -> u32
+    ensures { result ≡ mark_of name.now }
+{
+    name.iter().fold(0, |mark: u32, byte: &u8| {
+        mark.wrapping_mul(31).wrapping_add(u32::from(*byte))
+    })
 }

@@ -357,13 +357,14 @@ fn put_first<T: Table, I: ChangeItem>(
     ensures refused { IfErr result (λ refusal. refusal ≡ Refusal.Memory) }
     ensures text { OnErr result (out.new ≡ out.old) }
 {
+    let before = ViewTable::none(alloc)?;
     let seen = ViewTable::of(alloc, cells)?;
     let len = out.len();
     let scene = Scene {
         tree: cells.tree(),
         moment: 0,
     };
-    if put_differences(scene, &ViewTable::none(alloc), &seen, out).is_err() {
+    if put_differences(scene, &before, &seen, out).is_err() {
         out.cut_back(len);
         return Err(Refusal::Memory);
     }

@@ -1,5 +1,5 @@
 -- The views of all elements, in document order.
-use Rattle.std.proofs.Common.{◌≡◌, refl, sym, ◌∙◌, ap, subst, ℕ, suc, ◌<◌, List, [], ◌∷◌, Some, Bool, false, length, get_or}
+use Rattle.std.proofs.Common.{◌≡◌, refl, sym, ◌∙◌, ap, subst, ℕ, suc, ◌<◌, List, [], ◌∷◌, Option, Some, None, Bool, true, false, length, get_or, eq-eqb}
 use Rattle.std.specs.Prelude.{IsSome, cond, map, ◌==◌, ◌||◌, option_map, slice_get}
 use Rattle.std.specs.List.{list_any, position}
 use Rattle.std.proofs.lemmas.Bool.{or_parts}
@@ -12,7 +12,10 @@ use Rattle.smil_model.specs.document.Valid.{IsDistinct}
 use Rattle.smil_model.proofs.FirstPlaces.{position_cons}
 use Rattle.smil_tree.proofs.NodeFamilies.{node_of_place}
 use Rattle.smil_tree.proofs.ChildSpans.{serial_at}
-use Rattle.smil_instances.proofs.SiblingBefore.{distinct_elements}
+use Rattle.smil_model.specs.reach.Reach.{is_option}
+use Rattle.smil_graph.proofs.GraphTables.{place_is}
+use Rattle.smil_instances.specs.Spread.{IsIndex}
+use Rattle.smil_instances.proofs.SiblingBefore.{distinct_elements, first_told}
 use Rattle.smil_cells.specs.CellsState.{CellsState}
 use Rattle.smil_shown.specs.Sets.{AreOfElements}
 use Rattle.smil_shown.specs.ShownViews.{views_at}
@@ -34,15 +37,32 @@ element_at nodes whos i distinct all l =
       found = ap (node_at (elements nodes)) (sym e.2) ∙ node_of_place (elements nodes) i e.0 (distinct_elements nodes distinct) e.1;
     }
 
+-- ---- places
+
+same_option : (a b : Option ℕ) → ((k : ℕ) → is_option k a ≡ is_option k b) → a ≡ b
+same_option None None q = refl
+same_option None (Some k) q = let never : false ≡ true = q k ∙ eq-eqb k k refl in cc
+same_option (Some k) b q = sym (place_is k b (sym (q k) ∙ eq-eqb k k refl))
+
+-- an index of the elements leads to the first place of each
+first_is : (es : List Node) (index : ℕ → Option ℕ) → IsDistinct es → IsIndex (serials es) index → (s : ℕ) → index s ≡ position (λ (n : ℕ). n == s) (serials es)
+first_is es index distinct is s =
+    same_option (index s) (position (λ (n : ℕ). n == s) (serials es)) (λ row. is row s ∙ sym (first_told es distinct row s))
+
 module _ (f : Node → View) (own : (n : Node) → (f n).serial ≡ n.serial) where
   -- the view of an element has its place
-  pub place_of_view : (es : List Node) (s : ℕ) → position (λ (n : ℕ). n == s) (serials es) ≡ position (λ (v : View). v.serial == s) (map f es)
+  place_of_view : (es : List Node) (s : ℕ) → position (λ (n : ℕ). n == s) (serials es) ≡ position (λ (v : View). v.serial == s) (map f es)
   place_of_view [] s = refl
   place_of_view (e ∷ es) s =
       position_cons (λ (n : ℕ). n == s) e.serial (serials es)
       ∙ ap (λ o. cond (e.serial == s) (Some 0) (option_map suc o)) (place_of_view es s)
       ∙ ap (λ (n : ℕ). cond (n == s) (Some 0) (option_map suc (position (λ (v : View). v.serial == s) (map f es)))) (sym (own e))
       ∙ sym (position_cons (λ (v : View). v.serial == s) (f e) (map f es))
+
+  -- an index of the elements leads to the places of their views
+  pub view_places : (nodes : List Node) (index : ℕ → Option ℕ) → IsDistinct nodes → IsIndex (serials (elements nodes)) index → (s : ℕ) → index s ≡ position (λ (v : View). v.serial == s) (map f (elements nodes))
+  view_places nodes index distinct is s =
+      first_is (elements nodes) index (distinct_elements nodes distinct) is s ∙ place_of_view (elements nodes) s
 
   -- none has a serial that no node has
   pub none_of : (ns : List Node) (s : ℕ) → list_any (λ (m : Node). m.serial == s) ns ≡ false → has_view (map f ns) s ≡ false

@@ -12,15 +12,16 @@ ghost use Rattle.smil_shown.specs.ViewTable.{differs, has_view, view_in as view_
 use super::same::is_same;
 use smil_cells::{Cells, Table};
 use smil_element::{Present, view_of};
-use smil_model::{SerialTable, Shown, State, View, first_places};
+use smil_model::{SerialTable, Shown, State, View};
 use std::alloc::{AllocError, Global};
 use std::marker::Model;
+use std::rc::Rc;
 
 /// The views of elements in document order, one of each element. Where a view is changed, the one
 /// before is noted, until `back` or `forget`. Seen as the views, with those that `back` gives.
 pub struct ViewTable {
     rows: Vec<View>,
-    places: SerialTable,
+    places: Rc<SerialTable>,
     noted: Vec<View>,
 }
 
@@ -44,19 +45,19 @@ impl Model for ViewTable {
     ghost view = { λ s.
         record { views = s.rows.items; before = put_back s.rows.items s.noted.items } };
 
-    ghost invariant = { λ s. AreAt (get s.places) s.rows.items };
+    ghost invariant = { λ s. AreAt (get s.places.value) s.rows.items };
 }
 
 impl ViewTable {
-    /// No views. It takes no memory.
-    pub fn none(alloc: Global) -> ViewTable
-        ensures { result ≡ record { views = []; before = [] } }
+    /// No views, unless memory runs out.
+    pub fn none(alloc: Global) -> Result<ViewTable, AllocError>
+        ensures { IfOk result (λ seen. seen ≡ record { views = []; before = [] }) }
     {
-        ViewTable {
+        Ok(ViewTable {
             rows: Vec::new(alloc),
-            places: SerialTable::new(alloc),
+            places: Rc::new(alloc, SerialTable::new(alloc))?,
             noted: Vec::new(alloc),
-        }
+        })
     }
 
     /// The views of all elements at the present moment, unless memory runs out. The cells answered
@@ -70,11 +71,11 @@ impl ViewTable {
     {
         let tree = cells.tree();
         tree.valid();
-        let whos = tree.elements();
-        let rows = views_of(alloc, cells, whos)?;
+        let rows = views_of(alloc, cells, tree.elements())?;
+        let places = cells.past().syncs().places().clone()?;
         Ok(ViewTable {
             rows,
-            places: first_places(alloc, whos)?,
+            places,
             noted: Vec::new(alloc),
         })
     }

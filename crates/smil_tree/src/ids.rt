@@ -1,6 +1,6 @@
 //! The table from ids to serials.
 
-ghost use Rattle.std.specs.Prelude.{◌≡◌, ℕ, List, [], None, Some, OnOk, OnErr, if◌then◌else◌};
+ghost use Rattle.std.specs.Prelude.{◌≡◌, ℕ, List, [], None, Some, IfOk, OnOk, OnErr, if◌then◌else◌};
 ghost use Rattle.std.specs.Str.{bytes_eq};
 ghost use Rattle.std.specs.Map.{lookup};
 ghost use Rattle.smil_tree.specs.TreeFields.{bears};
@@ -43,6 +43,16 @@ impl Ids {
             serials: IndexMap::new(alloc),
             alloc,
         }
+    }
+
+    /// No ids, with room for so many; unless memory runs out.
+    pub fn with_room(alloc: Global, room: usize) -> Result<Ids, AllocError>
+        ensures { IfOk result (λ ids. ids ≡ []) }
+    {
+        Ok(Ids {
+            serials: IndexMap::with_capacity(alloc, room)?,
+            alloc,
+        })
     }
 
     /// The serial that an id leads to; None exactly where the table does not have the id. It takes

@@ -275,7 +275,7 @@ fn ids_of(alloc: Global, doc: &Doc) -> Result<Ids, AllocError>
     requires { IsValid doc.now }
     ensures { IfOk result (λ table. IsTableOf table doc.now.nodes) }
 {
-    let mut ids = Ids::new(alloc);
+    let mut ids = Ids::with_room(alloc, doc.len())?;
     for node in doc.nodes() {
         note_node(&mut ids, node)?;
     }

@@ -1,6 +1,8 @@
-use Rattle.std.proofs.Common.{◌≡◌, ◌∙◌, inr, arith, to_z, of_z, w64}
+use Rattle.std.proofs.Common.{◌≡◌, ◌∙◌, sym, inr, arith, to_z, of_z, w64}
 use Rattle.std.proofs.lemmas.Int.{ints}
+use Rattle.std.proofs.lemmas.List.{length-set}
 use Rattle.std.proofs.lemmas.Result.{err_from_is_err_and}
+use Rattle.smil_house.proofs.NameMarks.{player_turned}
 use Rattle.smil_house.proofs.PresentationsByName.{at_found, turned_to}
 use Rattle.smil_house.specs.House.{IsAt}
 use Rattle.smil_house.proofs.house.House.answer.Given.{Over}
@@ -46,3 +48,19 @@ returns-clause-ok g c =
       least_is = c.in_ok-answer.ensures.least;
       most_is = c.in_ok-answer.ensures.most;
     }
+
+pub invariant_of-self : goal.invariant_of-self
+invariant_of-self g c = (
+  omega (arith, length-set c.self.inside.held.items c.in-Some.index (record { name = c.index_mut.result.now.name; player = c.answer.new.self }), c.self.invariant.0),
+  c.self.invariant.1,
+  c.self.invariant.2,
+  c.self.invariant.3 ∙ sym (player_turned c.self.inside.held.items c.in-Some.index c.index_mut.result.now c.answer.new.self c.index_mut.ensures.value),
+)
+
+pub invariant_of-self-2 : goal.invariant_of-self-2
+invariant_of-self-2 g c = (
+  omega (arith, length-set c.self.inside.held.items c.in-Some.index (record { name = c.index_mut.result.now.name; player = c.answer.new.self }), c.self.invariant.0),
+  c.self.invariant.1,
+  c.self.invariant.2,
+  c.self.invariant.3 ∙ sym (player_turned c.self.inside.held.items c.in-Some.index c.index_mut.result.now c.answer.new.self c.index_mut.ensures.value),
+)

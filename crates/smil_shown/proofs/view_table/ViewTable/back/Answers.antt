@@ -9,11 +9,11 @@ pub loop-view-preserved-in-Some-get : goal.loop-view-preserved-in-Some-get
 loop-view-preserved-in-Some-get c =
     let rows = c.loop-view.self-inside.rows.items in
     let view = c.in-Some.view in
-    let e = c.in-Some-get.ensures ∙ c.loop-view.invariant.at.place view.serial in
+    let e = c.in-Some-get.ensures ∙ ap (λ places. get places view.serial) c.deref.ensures ∙ c.loop-view.invariant.at.place view.serial in
     let is = placed rows c.in-Some-get.place view view c.loop-view.invariant.at.one e in
     record {
-      at = subst (λ (l : List View). AreAt (get c.loop-view.self-inside.places) l) (sym is)
-          (at_put (get c.loop-view.self-inside.places) rows view c.loop-view.invariant.at);
+      at = subst (λ (l : List View). AreAt (get c.loop-view.self-inside.places.value) l) (sym is)
+          (at_put (get c.loop-view.self-inside.places.value) rows view c.loop-view.invariant.at);
       back = ap (λ (l : List View). put_back l c.pop.new.self.items) is
           ∙ last_back rows c.loop-view.self-inside.noted.items _ c.pop.new.self.items view c.loop-view.invariant.back c.in-Some.ensures.items;
     }
@@ -22,7 +22,7 @@ pub loop-view-preserved : goal.loop-view-preserved
 loop-view-preserved c =
     let rows = c.loop-view.self-inside.rows.items in
     let view = c.in-Some.view in
-    let e = c.in_default-get.ensures ∙ c.loop-view.invariant.at.place view.serial in
+    let e = c.in_default-get.ensures ∙ ap (λ places. get places view.serial) c.deref.ensures ∙ c.loop-view.invariant.at.place view.serial in
     let is = untouched rows view (absent view.serial rows e) in
     record {
       at = c.loop-view.invariant.at;

@@ -5,7 +5,7 @@ use Rattle.smil_shown.proofs.view_table.ViewTable.back.Given as goal
 
 abbrev pub invariant-loop-view : goal.invariant-loop-view
 invariant-loop-view l = record {
-  at : AreAt (get l.self-inside.places) l.self-inside.rows.items;
+  at : AreAt (get l.self-inside.places.value) l.self-inside.rows.items;
   back : put_back l.self-inside.rows.items l.self-inside.noted.items ≡ l.fn.self.before;
 }
 
