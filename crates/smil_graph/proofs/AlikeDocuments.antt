@@ -115,7 +115,7 @@ has_kind_reduced : (t : Kind → Bool) (o : Option Node) → has_kind t (option_
 has_kind_reduced t None = refl
 has_kind_reduced t (Some n) = refl
 
-serial_of_reduced : (o : Option Node) → serial_of (option_map reduced o) ≡ serial_of o
+pub serial_of_reduced : (o : Option Node) → serial_of (option_map reduced o) ≡ serial_of o
 serial_of_reduced None = refl
 serial_of_reduced (Some n) = refl
 
@@ -219,7 +219,7 @@ module _ (ns : List Node) where
   items_of_reduced Begin e = begin_list_reduced e
   items_of_reduced End e = items_or_reduced [] e.attrs.«end»
 
-  all_items_reduced : (e : Node) → all_items us (reduced e) ≡ reduced_items (all_items ns e)
+  pub all_items_reduced : (e : Node) → all_items us (reduced e) ≡ reduced_items (all_items ns e)
   all_items_reduced e =
       ap (λ xs. xs ++ end_list (reduced e)) (begin_list_reduced e) ∙ ap (λ xs. reduced_items (begin_list ns e) ++ xs) (items_or_reduced [] e.attrs.«end») ∙ sym (append_items (begin_list ns e) (end_list e))
 
@@ -285,7 +285,7 @@ module _ (ns : List Node) where
   leads_to_reduced e x =
       ap (λ all. has (closure (feeds us) all (e ∷ [])) x) (element_serials_reduced ns) ∙ ap (λ set. has set x) (closure_each (feeds us) (feeds ns) feeds_reduced (serials (elements ns)) (e ∷ []))
 
-  looped_reduced : (s : ℕ) (item : Item) → is_looped us s (reduced_item item) ≡ is_looped ns s item
+  pub looped_reduced : (s : ℕ) (item : Item) → is_looped us s (reduced_item item) ≡ is_looped ns s item
   looped_reduced s (Offset o) = refl
   looped_reduced s (Sync who edge o) = ap (is_looped_to us s) (named_reduced who) ∙ by_node (element_named ns who)
     where

@@ -143,11 +143,11 @@ pub tables_alike : (old new : Document) → IsDistinct new.nodes → all_reduced
 tables_alike old new distinct alike t are = record {
   above = table_alike old.nodes new.nodes alike distinct t.time_parents.items are.above;
   count = are.count ∙ long old.nodes new.nodes alike;
-  under = children_alike old.nodes new.nodes alike t.time_parents.items t.time_children.items are.under;
-  begun = marks_alike old.nodes new.nodes alike Begin t.begins.items are.begun;
-  ended = marks_alike old.nodes new.nodes alike End t.ends.items are.ended;
-  headed = heads_alike old.nodes new.nodes alike t.heads.items are.headed;
-  read = readers_alike old.nodes new.nodes alike t.readers.items are.read;
+  under = children_alike old.nodes new.nodes alike t.time_parents.items t.time_children are.under;
+  begun = marks_alike old.nodes new.nodes alike Begin t.begins are.begun;
+  ended = marks_alike old.nodes new.nodes alike End t.ends are.ended;
+  headed = heads_alike old.nodes new.nodes alike t.heads are.headed;
+  read = readers_alike old.nodes new.nodes alike t.readers are.read;
   waiting = waiting_alike old.nodes new.nodes alike t.waiting.items are.waiting;
   ordered = order_alike old.nodes new.nodes alike t.order are.ordered;
   ranked = are.ranked;

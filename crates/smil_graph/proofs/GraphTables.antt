@@ -1,7 +1,6 @@
 -- What is kept by places is as the definitions say.
-use Rattle.std.proofs.Common.{◌≡◌, refl, sym, ◌∙◌, ap, ℕ, suc, zero, ◌<◌, ◌≤◌, ◌+◌, List, [], ◌∷◌, length, Bool, true, false, Option, Some, None, Result, Ok, Err, arith, inl, inr}
+use Rattle.std.proofs.Common.{◌≡◌, refl, sym, ◌∙◌, ap, ℕ, suc, zero, ◌<◌, ◌≤◌, ◌+◌, List, [], ◌∷◌, length, Bool, true, false, Option, Some, None, arith, inl, inr}
 use Rattle.std.specs.Prelude.{cond, map, ◌==◌, ◌||◌, ◌&&◌, ◌⊎◌, IfSome, filter, slice_get, option_map}
-use Rattle.std.specs.Result.{IfOk}
 use Rattle.std.specs.List.{position, range_with_len}
 use Rattle.std.proofs.lemmas.Bool.{or_cases, and_parts, eqb-true}
 use Rattle.smil_model.specs.declared.document.Node.{Node}
@@ -22,10 +21,6 @@ use Rattle.smil_graph.proofs.NodesByPlace.{there, there_below}
 use Rattle.smil_graph.proofs.PlacesInOrder.{filter_rising, filter_below, filter_same, filter_none, has_in_range}
 use Rattle.smil_graph.proofs.DefinitionsByPlace.{follows_is, hears_is}
 use Rattle.smil_graph.proofs.LinksAreDependencies.{feeds_is, reads_is, looped_is}
-
-pub both_ok : {T E : Type 0} (r : Result T E) (P Q : T → Type 0) → IfOk r P → IfOk r Q → IfOk r (λ x. P x × Q x)
-both_ok (Ok x) P Q p q = (p, q)
-both_ok (Err e) P Q p q = tt
 
 -- ---- rows turned round
 

@@ -33,9 +33,6 @@ module _ (rows : List (List ℕ)) (starts : List ℕ) where
   pub few : (places : List ℕ) (next : ℕ) → IsSearch rows starts places next → length places ≤ length rows
   few places next s = length-le_from_distinct_below places (length rows) s.distinct (λ q at. s.below q (has_is places q ∙ at))
 
-  pub next_below : (places : List ℕ) (next : ℕ) → IsSearch rows starts places next → next < length places → get_or places next 0 < length rows
-  next_below places next s l = s.below (get_or places next 0) (has_get places next l)
-
   pub step : (places : List ℕ) (next : ℕ) → StayBelow (length rows) rows → IsSearch rows starts places next → next < length places → IsSearch rows starts (insert_all nat_eq places (row rows (get_or places next 0))) (next + 1)
   step places next stay s l = record {
     begun = λ i q. has_more places is i ∙ or_left _ _ (s.begun i q);

@@ -139,12 +139,12 @@ AreRanks order ranks = AreFirstPlaces (λ (s : ℕ). s) ranks order
 -- who reads whom, who waits for which key, and an order with ranks
 pub record AreTables (document : Document) (t : Tables) : Type 0 where
   pub above : IsTable document.nodes (λ n. time_parent document.nodes n.serial) t.time_parents.items
-  pub count : length t.time_children.items ≡ length document.nodes
-  pub under : AreTimeChildren document.nodes t.time_parents.items t.time_children.items
-  pub begun : AreMarks document.nodes Begin t.begins.items
-  pub ended : AreMarks document.nodes End t.ends.items
-  pub headed : AreHeads document.nodes t.heads.items
-  pub read : AreReaders document.nodes t.readers.items
+  pub count : length t.time_children ≡ length document.nodes
+  pub under : AreTimeChildren document.nodes t.time_parents.items t.time_children
+  pub begun : AreMarks document.nodes Begin t.begins
+  pub ended : AreMarks document.nodes End t.ends
+  pub headed : AreHeads document.nodes t.heads
+  pub read : AreReaders document.nodes t.readers
   pub waiting : AreWaiting document.nodes t.waiting.items
   pub ordered : IsGraphOrder document.nodes t.order
   pub ranked : AreRanks t.order (get t.ranks)

@@ -1,17 +1,17 @@
 //! Whether two documents are alike in what a graph reads of them.
 
-ghost use Rattle.std.specs.Prelude.{◌≡◌, true, option_map};
+ghost use Rattle.std.specs.Prelude.{◌≡◌, ◌↔◌, IsTrue, option_map};
 ghost use Rattle.smil_graph.specs.Reduced.{all_reduced, reduced, reduced_item, reduced_items};
 
 use smil_duration::takes_implicit;
 use smil_model::{Bytes, Edge, Item, Items, Kind, Node};
 use smil_tree::Tree;
 
-/// Whether two documents are the same in what a graph reads of them: the serials, parents, kinds and
-/// ids of their nodes, whom and which keys their items name, and which simple durations are
+/// Whether two documents are the same in what a graph reads of them: the serials, parents, kinds
+/// and ids of their nodes, whom and which keys their items name, and which simple durations are
 /// implicit. It takes no memory, and time for the nodes and their items.
 pub fn are_alike(before: &Tree, after: &Tree) -> bool
-    ensures { result ≡ true → all_reduced before.now.nodes ≡ all_reduced after.now.nodes }
+    ensures { IsTrue result ↔ (all_reduced before.now.nodes ≡ all_reduced after.now.nodes) }
 {
     let mut left = after.nodes();
     for node in before.nodes() {
@@ -27,7 +27,7 @@ pub fn are_alike(before: &Tree, after: &Tree) -> bool
 
 // Whether two nodes are the same in what a graph reads of them.
 fn is_alike(node: &Node, other: &Node) -> bool
-    ensures { result ≡ true → reduced node.now ≡ reduced other.now }
+    ensures { IsTrue result ↔ (reduced node.now ≡ reduced other.now) }
 {
     node.serial == other.serial
         && node.parent == other.parent
@@ -40,7 +40,7 @@ fn is_alike(node: &Node, other: &Node) -> bool
 
 // Whether two kinds are the same.
 fn is_same_kind(one: Kind, other: Kind) -> bool
-    ensures { result ≡ true → one ≡ other }
+    ensures { IsTrue result ↔ (one ≡ other) }
 {
     matches!(
         (one, other),
@@ -62,7 +62,7 @@ fn is_same_kind(one: Kind, other: Kind) -> bool
 
 // Whether two ids are the same, or both absent.
 fn is_same_id(one: &Option<Bytes>, other: &Option<Bytes>) -> bool
-    ensures { result ≡ true → one.now ≡ other.now }
+    ensures { IsTrue result ↔ (one.now ≡ other.now) }
 {
     match (one, other) {
         (None, None) => true,
@@ -73,8 +73,8 @@ fn is_same_id(one: &Option<Bytes>, other: &Option<Bytes>) -> bool
 
 // Whether two lists of items are the same in what a graph reads of them, or both absent.
 fn are_alike_stated(one: &Option<Items>, other: &Option<Items>) -> bool
-    ensures { result ≡ true
-        → option_map reduced_items one.now ≡ option_map reduced_items other.now }
+    ensures { IsTrue result
+        ↔ (option_map reduced_items one.now ≡ option_map reduced_items other.now) }
 {
     match (one, other) {
         (None, None) => true,
@@ -85,7 +85,7 @@ fn are_alike_stated(one: &Option<Items>, other: &Option<Items>) -> bool
 
 // Whether two lists of items are the same in what a graph reads of them.
 fn are_alike_items(ones: &[Item], others: &[Item]) -> bool
-    ensures { result ≡ true → reduced_items ones.now ≡ reduced_items others.now }
+    ensures { IsTrue result ↔ (reduced_items ones.now ≡ reduced_items others.now) }
 {
     let mut left = others.iter();
     for one in ones {
@@ -101,7 +101,7 @@ fn are_alike_items(ones: &[Item], others: &[Item]) -> bool
 
 // Whether two items are the same in what a graph reads of them.
 fn is_alike_item(one: &Item, other: &Item) -> bool
-    ensures { result ≡ true → reduced_item one.now ≡ reduced_item other.now }
+    ensures { IsTrue result ↔ (reduced_item one.now ≡ reduced_item other.now) }
 {
     match (one, other) {
         (Item::Offset { .. }, Item::Offset { .. }) => true,
@@ -123,7 +123,7 @@ fn is_alike_item(one: &Item, other: &Item) -> bool
 
 // Whether two edges are the same.
 fn is_same_edge(one: Edge, other: Edge) -> bool
-    ensures { result ≡ true → one ≡ other }
+    ensures { IsTrue result ↔ (one ≡ other) }
 {
     matches!(
         (one, other),

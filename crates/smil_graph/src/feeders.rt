@@ -13,9 +13,10 @@ ghost use Rattle.smil_graph.specs.Places.{up, leads_to_place, element_follows, f
 ghost use Rattle.smil_model.specs.document.Valid.{IsNumberedTree, IsDistinct};
 
 use super::outline::{TimeTree, is_element, place_at, previous_in_seqs};
-use super::row::{push_all, push_one, row_at};
+use super::row::{push_all, push_one};
 use super::short_list::ShortList;
 use smil_duration::takes_implicit;
+use smil_flat_lists::FlatLists;
 use smil_model::{Attrs, Bytes, Item, Items, Node};
 use smil_tree::Tree;
 use std::alloc::{AllocError, Global};
@@ -25,7 +26,7 @@ use std::collections::HashMap;
 // the child before each node in a seq, and the elements by their ids.
 #[derive(Drop)]
 struct Index<'a, 'b> {
-    children: &'a [ShortList<usize>],
+    children: &'a FlatLists<usize>,
     previous: &'a [Option<usize>],
     ids: &'a HashMap<&'b [u8], usize>,
 }
@@ -36,7 +37,7 @@ pub fn feeders(
     alloc: Global,
     tree: &TimeTree<'_>,
     ids: &HashMap<&[u8], usize>,
-) -> Result<Vec<ShortList<usize>>, AllocError>
+) -> Result<FlatLists<usize>, AllocError>
     requires numbered { IsNumberedTree tree.now.doc.now }
     requires parents { IsTable tree.now.doc.now.nodes
         (λ n. model.time_parent tree.now.doc.now.nodes n.serial) tree.now.parents.now }
@@ -45,7 +46,7 @@ pub fn feeders(
     requires ids { IsIndex tree.now.doc.now.nodes (model.element_named tree.now.doc.now.nodes)
         (λ id. get_by (λ k. bytes_eq id k.now) ids.now) }
     ensures { IfOk result (λ rows. AreRows (length tree.now.doc.now.nodes)
-        (feeds_place tree.now.doc.now.nodes) rows.items) }
+        (feeds_place tree.now.doc.now.nodes) rows) }
 {
     let previous = previous_in_seqs(alloc, tree)?;
     let index = Index {
@@ -61,18 +62,18 @@ fn feeder_rows(
     alloc: Global,
     tree: &Tree,
     index: &Index<'_, '_>,
-) -> Result<Vec<ShortList<usize>>, AllocError>
+) -> Result<FlatLists<usize>, AllocError>
     ensures { IfOk result (λ rows. AreRows (length tree.now.nodes)
         (λ j i. element_follows (row index.now.children.now j) (up index.now.previous.now j)
         (λ id. get_by (λ k. bytes_eq id k.now) index.now.ids.now) (slice_get tree.now.nodes j) i)
-        rows.items) }
+        rows) }
 {
-    let mut rows = Vec::with_capacity(alloc, tree.len())?;
+    let mut rows = FlatLists::with_capacity(alloc, tree.len())?;
     for place in 0..tree.len() {
         let node = tree.at(place).unwrap();
         let mut row = ShortList::new(alloc);
         push_feeders(&mut row, index, node, place)?;
-        rows.push(row)?;
+        rows.push(row.slice())?;
     }
     Ok(rows)
 }
@@ -82,23 +83,23 @@ fn feeder_rows(
 pub fn sources(
     alloc: Global,
     tree: &Tree,
-    feeders: &[ShortList<usize>],
+    feeders: &FlatLists<usize>,
     ids: &HashMap<&[u8], usize>,
-) -> Result<Vec<ShortList<usize>>, AllocError>
+) -> Result<FlatLists<usize>, AllocError>
     requires distinct { IsDistinct tree.now.nodes }
     requires feeders { AreRows (length tree.now.nodes) (feeds_place tree.now.nodes) feeders.now }
     requires ids { IsIndex tree.now.nodes (model.element_named tree.now.nodes)
         (λ id. get_by (λ k. bytes_eq id k.now) ids.now) }
     ensures { IfOk result (λ rows. AreRows (length tree.now.nodes) (reads_place tree.now.nodes)
-        rows.items) }
+        rows) }
 {
-    let mut rows = Vec::with_capacity(alloc, tree.len())?;
+    let mut rows = FlatLists::with_capacity(alloc, tree.len())?;
     for place in 0..tree.len() {
         let node = tree.at(place).unwrap();
         let mut row = ShortList::new(alloc);
-        push_all(&mut row, row_at(feeders, place))?;
+        push_all(&mut row, feeders.at(place))?;
         push_heard_by(&mut row, node, ids, place)?;
-        rows.push(row)?;
+        rows.push(row.slice())?;
     }
     Ok(rows)
 }
@@ -120,7 +121,7 @@ fn push_feeders(
     if !is_element(node) {
         return Ok(());
     }
-    push_children(row, &node.attrs, row_at(index.children, place))?;
+    push_children(row, &node.attrs, index.children.at(place))?;
     push_one(row, place_at(index.previous, place))?;
     push_named(row, &node.attrs.begin, index.ids)?;
     push_named(row, &node.attrs.end, index.ids)

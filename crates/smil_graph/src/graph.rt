@@ -17,6 +17,7 @@ use super::row::row_at;
 use super::search::search;
 use super::short_list::ShortList;
 use super::tables::{Tables, serials_at, tables_of};
+use smil_flat_lists::FlatLists;
 use smil_model::{Duplicate, Edge, Serials};
 use smil_tree::Tree;
 use std::alloc::{AllocError, Global};
@@ -30,6 +31,14 @@ pub struct Graph {
     tree: Tree,
     tables: Rc<Tables>,
     alloc: Global,
+}
+
+/// The graph of an edited document, and whether it is known that the document is alike to the one
+/// before in what a graph reads of it.
+#[derive(Drop)]
+pub struct Revised {
+    pub graph: Graph,
+    pub alike: bool,
 }
 
 impl Drop for Graph {
@@ -84,17 +93,21 @@ impl Graph {
         })
     }
 
-    /// The graph of an edited document, by this one of the document before; unless memory runs out.
-    /// Where the two documents are alike in what a graph reads of them, as `are_alike` says, it
-    /// takes no memory and a step for each node and item, and else what `of` takes.
-    pub fn revised(&self, after: Tree) -> Result<Graph, AllocError>
-        ensures { IfOk result (λ graph. document_of graph ≡ after) }
+    /// The graph of an edited document, by this one of the document before, and whether the two are
+    /// alike in what a graph reads of them, as `are_alike` says; unless memory runs out. Where they
+    /// are alike it takes no memory and a step for each node and item, and else what `of` takes.
+    pub fn revised(&self, after: Tree) -> Result<Revised, AllocError>
+        ensures document { IfOk result (λ revised. document_of revised.graph ≡ after) }
+        ensures alike { IfOk result (λ revised. revised.alike ≡ true
+            → all_reduced self.now.nodes ≡ all_reduced revised.graph.nodes) }
     {
-        if are_alike(&self.tree, &after) {
-            self.shared(after)
+        let alike = are_alike(&self.tree, &after);
+        let graph = if alike {
+            self.shared(after)?
         } else {
-            Graph::of(self.alloc, after)
-        }
+            Graph::of(self.alloc, after)?
+        };
+        Ok(Revised { graph, alike })
     }
 
     // The graph of a document that is alike.
@@ -126,8 +139,8 @@ impl Graph {
         let tables = self.tables.as_ref();
         let place = self.tree.position(serial);
         match side {
-            Edge::Begin => is_marked(tables.begins.as_slice(), place, item),
-            Edge::End => is_marked(tables.ends.as_slice(), place, item),
+            Edge::Begin => is_marked(&tables.begins, place, item),
+            Edge::End => is_marked(&tables.ends, place, item),
         }
     }
 
@@ -138,7 +151,7 @@ impl Graph {
         ensures { result.now ≡ readers_of self.now.nodes serial }
     {
         let tables = self.tables.as_ref();
-        row_of(tables.readers.as_slice(), self.tree.position(serial))
+        row_of(&tables.readers, self.tree.position(serial))
     }
 
     /// The elements in an order in which each dependency that is not looped goes forward. It takes
@@ -208,7 +221,7 @@ fn reach_at(
     let times = TimeTree {
         doc: tree,
         parents: tables.time_parents.as_slice(),
-        children: tables.time_children.as_slice(),
+        children: &tables.time_children,
     };
     let starts = near(alloc, &times, place)?;
     reach_from(alloc, tree, tables, starts.as_slice())
@@ -227,7 +240,7 @@ fn reach_from(
     ensures { IfOk result (λ reach. (set : List ℕ) → AreOf tree.now.nodes set starts.now
         → reach ≡ reach_of tree.now.nodes set) }
 {
-    let mut found = search(alloc, tables.heads.as_slice(), starts)?;
+    let mut found = search(alloc, &tables.heads, starts)?;
     found.sort_unstable()?;
     serials_at(alloc, tree, found.as_slice())
 }
@@ -243,28 +256,22 @@ fn element_place(tree: &Tree, serial: u32) -> Option<usize>
 }
 
 // The row at a place; it is empty where there is none.
-fn row_of(rows: &[ShortList<u32>], place: Option<usize>) -> &[u32]
+fn row_of(rows: &FlatLists<u32>, place: Option<usize>) -> &[u32]
     ensures { result.now ≡ row_of rows.now place }
 {
     match place {
-        Some(place) => match rows.get(place) {
-            Some(row) => row.slice(),
-            None => &[],
-        },
+        Some(place) => rows.at(place),
         None => &[],
     }
 }
 
 // Whether there is a mark at an item of the row at a place.
-fn is_marked(rows: &[ShortList<bool>], place: Option<usize>, item: usize) -> bool
+fn is_marked(rows: &FlatLists<bool>, place: Option<usize>, item: usize) -> bool
     ensures { result ≡ marked_at rows.now place item }
 {
     match place {
-        Some(place) => match rows.get(place) {
-            Some(row) => match row.slice().get(item) {
-                Some(mark) => *mark,
-                None => false,
-            },
+        Some(place) => match rows.at(place).get(item) {
+            Some(mark) => *mark,
             None => false,
         },
         None => false,

@@ -21,4 +21,4 @@ mod turned;
 mod waiting;
 
 pub use alike::are_alike;
-pub use graph::Graph;
+pub use graph::{Graph, Revised};

@@ -13,6 +13,7 @@ use super::feeders::named_by;
 use super::outline::is_element;
 use super::row::number_at;
 use super::short_list::ShortList;
+use smil_flat_lists::FlatLists;
 use smil_model::{Edge, Items};
 use smil_tree::Tree;
 use std::alloc::{AllocError, Global};
@@ -33,21 +34,21 @@ pub fn looped_marks(
     tree: &Tree,
     loops: &Loops<'_, '_>,
     side: Edge,
-) -> Result<Vec<ShortList<bool>>, AllocError>
+) -> Result<FlatLists<bool>, AllocError>
     requires distinct { IsDistinct tree.now.nodes }
     requires ids { IsIndex tree.now.nodes (model.element_named tree.now.nodes)
         (λ id. get_by (λ k. bytes_eq id k.now) loops.now.ids.now) }
     requires levels { AreElementLevels tree.now.nodes loops.now.levels.now }
-    ensures { IfOk result (λ rows. AreMarks tree.now.nodes side rows.items) }
+    ensures { IfOk result (λ rows. AreMarks tree.now.nodes side rows) }
 {
-    let mut rows = Vec::with_capacity(alloc, tree.len())?;
+    let mut rows = FlatLists::with_capacity(alloc, tree.len())?;
     for place in 0..tree.len() {
         let node = tree.at(place).unwrap();
         let mut row = ShortList::new(alloc);
         if is_element(node) {
             push_marks(&mut row, node.attrs.list(side), loops, place)?;
         }
-        rows.push(row)?;
+        rows.push(row.slice())?;
     }
     Ok(rows)
 }

@@ -6,6 +6,7 @@ ghost use Rattle.smil_model.specs.document.Closure.{has};
 ghost use Rattle.smil_graph.specs.Links.{row};
 
 use super::short_list::ShortList;
+use smil_flat_lists::FlatLists;
 use std::alloc::{AllocError, Global};
 
 /// So many empty rows.
@@ -37,6 +38,17 @@ pub fn row_at(rows: &[ShortList<usize>], place: usize) -> &[usize]
         Some(row) => row.slice(),
         None => &[],
     }
+}
+
+/// The same rows, one behind the other.
+pub fn flat(alloc: Global, rows: &[ShortList<usize>]) -> Result<FlatLists<usize>, AllocError>
+    ensures { IfOk result (λ lists. lists ≡ rows.now) }
+{
+    let mut lists = FlatLists::with_capacity(alloc, rows.len())?;
+    for row in rows {
+        lists.push(row.slice())?;
+    }
+    Ok(lists)
 }
 
 /// The number at a place; 0 past the last one.

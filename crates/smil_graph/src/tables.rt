@@ -15,9 +15,11 @@ use super::looped::{Loops, looped_marks};
 use super::ordered::ordered;
 use super::outline::{TimeTree, parents, time_children, time_parents};
 use super::places::id_places;
+use super::row::flat;
 use super::short_list::ShortList;
 use super::turned::turned;
 use super::waiting::waiting;
+use smil_flat_lists::FlatLists;
 use smil_model::{Edge, SerialTable, first_places};
 use smil_tree::Tree;
 use std::alloc::{AllocError, Global};
@@ -26,11 +28,11 @@ use std::collections::HashMap;
 /// What a graph keeps of its document, by places in document order.
 pub struct Tables {
     pub time_parents: Vec<Option<usize>>,
-    pub time_children: Vec<ShortList<usize>>,
-    pub begins: Vec<ShortList<bool>>,
-    pub ends: Vec<ShortList<bool>>,
-    pub heads: Vec<ShortList<usize>>,
-    pub readers: Vec<ShortList<u32>>,
+    pub time_children: FlatLists<usize>,
+    pub begins: FlatLists<bool>,
+    pub ends: FlatLists<bool>,
+    pub heads: FlatLists<usize>,
+    pub readers: FlatLists<u32>,
     pub waiting: Vec<ShortList<usize>>,
     pub order: ShortList<u32>,
     pub ranks: SerialTable,
@@ -65,11 +67,11 @@ pub fn tables_of(alloc: Global, tree: &Tree) -> Result<Tables, AllocError>
     let times = TimeTree {
         doc: tree,
         parents: time_parents.as_slice(),
-        children: time_children.as_slice(),
+        children: &time_children,
     };
     let feeders = feeders(alloc, &times, &ids)?;
-    let levels = element_levels(alloc, feeders.as_slice())?;
-    let heads = heads(alloc, tree, feeders.as_slice(), &ids)?;
+    let levels = element_levels(alloc, &feeders)?;
+    let heads = heads(alloc, tree, &feeders, &ids)?;
     let order = ordered(alloc, tree, levels.as_slice(), time_parents.as_slice())?;
     let loops = Loops {
         ids: &ids,
@@ -78,7 +80,7 @@ pub fn tables_of(alloc: Global, tree: &Tree) -> Result<Tables, AllocError>
     Ok(Tables {
         begins: looped_marks(alloc, tree, &loops, Edge::Begin)?,
         ends: looped_marks(alloc, tree, &loops, Edge::End)?,
-        readers: readers(alloc, tree, heads.as_slice())?,
+        readers: readers(alloc, tree, &heads)?,
         waiting: waiting(alloc, tree)?,
         ranks: first_places(alloc, order.slice())?,
         order,
@@ -89,7 +91,7 @@ pub fn tables_of(alloc: Global, tree: &Tree) -> Result<Tables, AllocError>
 }
 
 // A level for each node, from the rows of what each element's times follow from.
-fn element_levels(alloc: Global, feeders: &[ShortList<usize>]) -> Result<Vec<usize>, AllocError>
+fn element_levels(alloc: Global, feeders: &FlatLists<usize>) -> Result<Vec<usize>, AllocError>
     requires { StayBelow (length feeders.now) feeders.now }
     ensures { IfOk result (λ levels. (nodes : List Node) → IsDistinct nodes
         → AreRows (length nodes) (feeds_place nodes) feeders.now
@@ -103,33 +105,34 @@ fn element_levels(alloc: Global, feeders: &[ShortList<usize>]) -> Result<Vec<usi
 fn heads(
     alloc: Global,
     tree: &Tree,
-    feeders: &[ShortList<usize>],
+    feeders: &FlatLists<usize>,
     ids: &HashMap<&[u8], usize>,
-) -> Result<Vec<ShortList<usize>>, AllocError>
+) -> Result<FlatLists<usize>, AllocError>
     requires distinct { IsDistinct tree.now.nodes }
     requires feeders { AreRows (length tree.now.nodes) (feeds_place tree.now.nodes) feeders.now }
     requires ids { IsIndex tree.now.nodes (element_named tree.now.nodes)
         (λ id. get_by (λ k. bytes_eq id k.now) ids.now) }
-    ensures { IfOk result (λ rows. AreHeads tree.now.nodes rows.items) }
+    ensures { IfOk result (λ rows. AreHeads tree.now.nodes rows) }
 {
     let sources = sources(alloc, tree, feeders, ids)?;
-    turned(alloc, sources.as_slice())
+    let rows = turned(alloc, &sources)?;
+    flat(alloc, rows.as_slice())
 }
 
 // For each element the serials of those that read it, in document order.
 fn readers(
     alloc: Global,
     tree: &Tree,
-    heads: &[ShortList<usize>],
-) -> Result<Vec<ShortList<u32>>, AllocError>
+    heads: &FlatLists<usize>,
+) -> Result<FlatLists<u32>, AllocError>
     requires distinct { IsDistinct tree.now.nodes }
     requires heads { AreHeads tree.now.nodes heads.now }
-    ensures { IfOk result (λ rows. AreReaders tree.now.nodes rows.items) }
+    ensures { IfOk result (λ rows. AreReaders tree.now.nodes rows) }
 {
-    let mut rows = Vec::with_capacity(alloc, heads.len())?;
-    for row in heads {
-        let serials = serials_at(alloc, tree, row.slice())?;
-        rows.push(serials)?;
+    let mut rows = FlatLists::with_capacity(alloc, heads.len())?;
+    for place in 0..heads.len() {
+        let serials = serials_at(alloc, tree, heads.at(place))?;
+        rows.push(serials.slice())?;
     }
     Ok(rows)
 }

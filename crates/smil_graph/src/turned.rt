@@ -5,18 +5,19 @@ ghost use Rattle.smil_graph.specs.Links.{row, StayBelow, AreBelow, that_have, is
 
 use super::row::{empty_rows, push_at};
 use super::short_list::ShortList;
+use smil_flat_lists::FlatLists;
 use std::alloc::{AllocError, Global};
 
 /// For each place the rows that have it, in rising order.
-pub fn turned(alloc: Global, rows: &[ShortList<usize>]) -> Result<Vec<ShortList<usize>>, AllocError>
+pub fn turned(alloc: Global, rows: &FlatLists<usize>) -> Result<Vec<ShortList<usize>>, AllocError>
     requires { StayBelow (length rows.now) rows.now }
     ensures count { IfOk result (λ heads. length heads.items ≡ length rows.now) }
     ensures heads { IfOk result (λ heads. (i : ℕ) → i < length rows.now
         → row heads.items i ≡ that_have rows.now i) }
 {
     let mut heads = empty_rows(alloc, rows.len())?;
-    for (place, row) in rows.iter().enumerate() {
-        push_in_each(&mut heads, row.slice(), place)?;
+    for place in 0..rows.len() {
+        push_in_each(&mut heads, rows.at(place), place)?;
     }
     Ok(heads)
 }

@@ -20,9 +20,9 @@ loop-place-preserved c =
           rw w.row-is (marked_element c.args.side levels named place node (option_copied w.list.result) c.new-row.result w.push_marks.new.row (sym c.is_element.ensures ∙ w.if-is_element.true) c.new-row.ensures w.list.ensures w.in_ok-push_marks.ensures)
       | else-is_element w ↦ rw w.row-is (marked_class c.args.side levels named place node c.new-row.result (sym c.is_element.ensures ∙ w.if-is_element.false) c.new-row.ensures)
     ] in
-    rw c.in_ok-push.ensures.items (marked_step c.args.side levels named place node c.args.tree.now.nodes c.loop-place.rows.items c.if-is_element.row at each c.loop-place.invariant)
+    rw (c.in_ok-push.ensures.ok, c.slice.ensures) (marked_step c.args.side levels named place node c.args.tree.now.nodes c.loop-place.rows c.if-is_element.row at each c.loop-place.invariant)
 
 pub returns : goal.returns
 returns c =
     let end : c.loop-place.place ≡ length c.args.tree.now.nodes = omega (arith, c.len-place-end.ensures, c.loop-place-test.false, c.loop-place.auto.place-end) in
-    marks_are c.args.tree.now.nodes c.requires.distinct (λ id. get_by (λ k. bytes_eq id k.now) c.args.loops.now.ids.now) c.requires.ids c.args.loops.now.levels.now c.requires.levels c.args.side c.loop-place.rows.items (rw end at c.loop-place.invariant)
+    marks_are c.args.tree.now.nodes c.requires.distinct (λ id. get_by (λ k. bytes_eq id k.now) c.args.loops.now.ids.now) c.requires.ids c.args.loops.now.levels.now c.requires.levels c.args.side c.loop-place.rows (rw end at c.loop-place.invariant)

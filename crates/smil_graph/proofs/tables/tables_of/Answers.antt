@@ -7,10 +7,10 @@ pub feeders-requires-clause-parents : goal.feeders-requires-clause-parents
 feeders-requires-clause-parents c = rw c.as_slice-3.ensures.value c.in_ok-time_parents.ensures
 
 pub element_levels-requires : goal.element_levels-requires
-element_levels-requires c = rw c.as_slice-5.ensures.value (rows_stay (length c.args.tree.now.nodes) (feeds_place c.args.tree.now.nodes) c.in_ok-feeders.feeders.items c.in_ok-feeders.ensures (λ i j l q. feeds_low c.args.tree.now.nodes i j q))
+element_levels-requires c = rows_stay (length c.args.tree.now.nodes) (feeds_place c.args.tree.now.nodes) c.in_ok-feeders.feeders c.in_ok-feeders.ensures (λ i j l q. feeds_low c.args.tree.now.nodes i j q)
 
 pub ordered-requires-clause-time_parents : goal.ordered-requires-clause-time_parents
-ordered-requires-clause-time_parents c = rw c.as_slice-8.ensures.value c.in_ok-time_parents.ensures
+ordered-requires-clause-time_parents c = rw c.as_slice-5.ensures.value c.in_ok-time_parents.ensures
 
 pub returns : goal.returns
 returns c = record {

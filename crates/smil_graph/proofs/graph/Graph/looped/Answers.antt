@@ -10,17 +10,15 @@ use Rattle.smil_graph.proofs.graph.Graph.looped.Goals as goal
 pub returns-in-Begin : goal.returns-in-Begin
 returns-in-Begin c =
     c.is_marked.ensures
-    ∙ ap (λ r. marked_at r c.position-place.result c.args.item) c.as_slice.ensures.value
-    ∙ ap (λ o. marked_at c.as_ref-tables.result.now.begins.items o c.args.item) c.position-place.ensures
-    ∙ marks_answer c.self.inside.tree.nodes (c.self.invariant.0).distinct (place_of c.self.inside.tree.nodes) (all_placed c.self.inside.tree.nodes) Begin c.as_ref-tables.result.now.begins.items (kept c.self.inside.tree c.self.inside.tables.value c.as_ref-tables.result.now c.as_ref-tables.ensures c.self.invariant.1).begun c.args.serial c.args.item
+    ∙ ap (λ o. marked_at c.as_ref-tables.result.now.begins o c.args.item) c.position-place.ensures
+    ∙ marks_answer c.self.inside.tree.nodes (c.self.invariant.0).distinct (place_of c.self.inside.tree.nodes) (all_placed c.self.inside.tree.nodes) Begin c.as_ref-tables.result.now.begins (kept c.self.inside.tree c.self.inside.tables.value c.as_ref-tables.result.now c.as_ref-tables.ensures c.self.invariant.1).begun c.args.serial c.args.item
     ∙ ap (λ (g : OrderedNodes). looped_at g.nodes c.args.serial Begin c.args.item) c.self.view_is
     ∙ sym (ap (λ s. looped_at c.args.self.now.nodes c.args.serial s c.args.item) c.in-Begin.is)
 
 pub returns-in-End : goal.returns-in-End
 returns-in-End c =
     c.is_marked-in-End.ensures
-    ∙ ap (λ r. marked_at r c.position-place.result c.args.item) c.as_slice-in-End.ensures.value
-    ∙ ap (λ o. marked_at c.as_ref-tables.result.now.ends.items o c.args.item) c.position-place.ensures
-    ∙ marks_answer c.self.inside.tree.nodes (c.self.invariant.0).distinct (place_of c.self.inside.tree.nodes) (all_placed c.self.inside.tree.nodes) End c.as_ref-tables.result.now.ends.items (kept c.self.inside.tree c.self.inside.tables.value c.as_ref-tables.result.now c.as_ref-tables.ensures c.self.invariant.1).ended c.args.serial c.args.item
+    ∙ ap (λ o. marked_at c.as_ref-tables.result.now.ends o c.args.item) c.position-place.ensures
+    ∙ marks_answer c.self.inside.tree.nodes (c.self.invariant.0).distinct (place_of c.self.inside.tree.nodes) (all_placed c.self.inside.tree.nodes) End c.as_ref-tables.result.now.ends (kept c.self.inside.tree c.self.inside.tables.value c.as_ref-tables.result.now c.as_ref-tables.ensures c.self.invariant.1).ended c.args.serial c.args.item
     ∙ ap (λ (g : OrderedNodes). looped_at g.nodes c.args.serial End c.args.item) c.self.view_is
     ∙ sym (ap (λ s. looped_at c.args.self.now.nodes c.args.serial s c.args.item) c.in-End.is)

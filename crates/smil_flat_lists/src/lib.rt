@@ -1,0 +1,6 @@
+//! Many lists of values, one behind the other.
+#![tactic(auto)]
+
+mod flat_lists;
+
+pub use flat_lists::FlatLists;
