@@ -13,7 +13,7 @@ pub long_idle : (n : ℕ) (ls : List (List InstanceTime)) → length (with_idle 
 long_idle n [] = omega (arith, length-replicate {A = List InstanceTime} n [])
 long_idle n (l ∷ ls) = omega (arith, long_idle n ls)
 
-none_kept : (n i : ℕ) → get_or {A = List InstanceTime} (replicate n []) i [] ≡ []
+pub none_kept : (n i : ℕ) → get_or {A = List InstanceTime} (replicate n []) i [] ≡ []
 none_kept zero i = refl
 none_kept (suc n) zero = refl
 none_kept (suc n) (suc i) = none_kept n i
@@ -36,7 +36,7 @@ changed_item change n i ls all own new inside is view so =
     ∙ ap (set (with_idle n ls) i) (so ∙ ap change (is ∙ default_free ls i own [] inside ∙ sym (get_idle n i ls)))
     ∙ ap (λ xs. set xs i (change (get_or xs i []))) view
 
-no_values : {A : Type 0} (choose : Time → Option A) (n : ℕ) → flat_map (values_of choose) (replicate n []) ≡ []
+pub no_values : {A : Type 0} (choose : Time → Option A) (n : ℕ) → flat_map (values_of choose) (replicate n []) ≡ []
 no_values choose zero = refl
 no_values choose (suc n) = no_values choose n
 
@@ -50,7 +50,7 @@ merged_idle le choose n ls = ap (λ xs. poured le xs []) (same_values choose n l
 pub same_merged : {A : Type 0} (le : A → A → Bool) (choose : Time → Option A) (n m : ℕ) (ls ms : List (List InstanceTime)) → with_idle n ls ≡ with_idle m ms → merged le choose ls ≡ merged le choose ms
 same_merged le choose n m ls ms same = sym (merged_idle le choose n ls) ∙ ap (merged le choose) same ∙ merged_idle le choose m ms
 
-before_none : (place n : ℕ) → map (before_place place) (replicate n []) ≡ replicate n []
+pub before_none : (place n : ℕ) → map (before_place place) (replicate n []) ≡ replicate n []
 before_none place zero = refl
 before_none place (suc n) = ap (λ xs. [] ∷ xs) (before_none place n)
 

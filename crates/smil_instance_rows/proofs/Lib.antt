@@ -6,3 +6,4 @@ pub mod SideValues
 pub mod CellChanges
 pub mod Noted
 pub mod LastValues
+pub mod SingleTimes

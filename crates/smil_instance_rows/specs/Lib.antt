@@ -4,5 +4,6 @@ pub mod Places
 pub mod Readings
 pub mod Rows
 pub mod Values
+pub mod GivenTimes
 pub mod Notes
-pub mod ShortLists
+pub mod Sides

@@ -66,13 +66,6 @@ impl InstanceRow {
         }
     }
 
-    /// The serial of the element. It takes no memory.
-    pub fn serial(&self) -> u32
-        ensures { result ≡ self.now.serial }
-    {
-        self.serial
-    }
-
     /// Adds an instance time to an item. Where memory runs out all is as before.
     pub fn add(&mut self, side: Edge, item: usize, last: InstanceTime) -> Result<(), AllocError>
         requires item { item < length (side_of self.old side) }

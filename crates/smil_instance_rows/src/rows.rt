@@ -2,8 +2,8 @@
 
 ghost use Rattle.smil_instance_rows.specs.Notes.{times_put};
 ghost use Rattle.std.specs.FinMap.{get};
-ghost use Rattle.std.specs.Prelude.{◌≡◌, ℕ, List, [], ◌∷◌, ◌++◌, OnOk, OnErr, ◌<◌, length, option_copied, option_map, slice_get, false, IfOk, None, true};
-ghost use Rattle.smil_instance_rows.specs.Rows.{from_place, ElementTimes, rows_before};
+ghost use Rattle.std.specs.Prelude.{◌≡◌, ℕ, List, [], ◌∷◌, ◌++◌, OnOk, OnErr, ◌<◌, length, option_copied, slice_get, false, IfOk, None, true};
+ghost use Rattle.smil_instance_rows.specs.Rows.{from_place, rows_before};
 ghost use Rattle.smil_instance_rows.specs.Places.{IsNotAfter, EndsWith, last_alone};
 ghost use Rattle.smil_instance_rows.specs.Changes.{HasCell, cell_of, with_cell, row_at};
 ghost use Rattle.smil_instance_rows.specs.Readings.{index_in, row_in, begins_in, ends_in, times_in, first_from, first_after};
@@ -238,14 +238,6 @@ impl Rows {
         ensures { result ≡ index_in self.now who }
     {
         self.indices.get(who)
-    }
-
-    /// The serial of the element of a row, by the row's index; None exactly where the index is not
-    /// below the number of rows. It takes no memory.
-    pub fn serial_at(&self, index: usize) -> Option<u32>
-        ensures { result ≡ option_map (λ (r : ElementTimes). r.serial) (slice_get self.now index) }
-    {
-        Some(self.at(index)?.serial())
     }
 
     // The row of an element, if it has one.

@@ -1,53 +1,67 @@
-//! The instance times of one list of items, and their values in rising order.
+//! The instance times of one list of items.
 
-ghost use Rattle.std.specs.Prelude.{◌≡◌, List, [], ◌∷◌, ◌++◌, OnOk, OnErr, IfOk, ◌<◌, length, get_or, set, not, find, true, false, map};
+ghost use Rattle.std.specs.Prelude.{◌≡◌, List, [], ◌∷◌, ◌++◌, OnOk, OnErr, IfOk, ◌<◌, length, get_or, set, not, find, true, false, map, replicate, suc};
 ghost use Rattle.smil_instance_rows.specs.Rows.{from_place, before_place};
-ghost use Rattle.smil_instance_rows.specs.Values.{merged, with_idle};
+ghost use Rattle.smil_instance_rows.specs.Values.{merged};
 ghost use Rattle.smil_instance_rows.specs.Places.{IsNotAfter, EndsWith, last_alone};
 
 use super::instant::Instant;
-use super::item_times::{InstanceTime, ItemTimes, add, cut, cut_later, keep_last, undo};
-use super::sorted::SortedList;
-use smallvec::SmallVec;
+use super::item_lists::ItemLists;
+use super::item_times::InstanceTime;
 use smil_model::Duplicate;
 use std::alloc::{AllocError, Global};
 use std::marker::Model;
 
-/// The instance times of each item of a begin or end list, seen as a list of lists. The last items
-/// for which nothing was kept yet have no list.
+/// The instance times of each item of a begin or end list, seen as a list of lists. Most lists have
+/// one instance time at most: it stands in the side itself, several in memory of their own.
 #[derive(Drop)]
 pub struct Side<T: Instant> {
-    sorted: SortedList<T>,
-    items: SmallVec<ItemTimes, 1>,
-    idle: usize,
+    kept: Kept<T>,
+    alloc: Global,
+}
+
+/// What is kept for the items of a list.
+#[derive(Drop)]
+enum Kept<T: Instant> {
+    /// Nothing, for so many items.
+    Nothing { items: u32 },
+    Single(SingleTime<T>),
+    Several(Box<ItemLists<T>>),
+}
+
+/// The one instance time of so many items.
+#[derive(Clone, Copy)]
+struct SingleTime<T: Instant> {
+    items: u32,
+    /// The index of the item that has it.
+    item: u32,
+    place: usize,
+    /// What its time gives.
+    value: T,
 }
 
 impl<T: Instant> Model for Side<T> {
-    ghost use Rattle.std.specs.Prelude.{◌≡◌, List};
+    ghost use Rattle.std.specs.Prelude.{List};
     ghost use Rattle.smil_instance_rows.specs.declared.item_times.InstanceTime.{InstanceTime};
-    ghost use Rattle.smil_instance_rows.specs.Values.{merged, with_idle};
+    ghost use Rattle.smil_instance_rows.specs.Sides.{IsWithin, lists_of};
 
     ghost Value = { List (List InstanceTime) };
 
-    ghost view = { λ a. with_idle a.idle a.items.items };
+    ghost view = { λ a. lists_of T.given a.kept };
 
-    ghost invariant = { λ a. a.sorted ≡ merged T.at_most T.choose a.items.items };
+    ghost invariant = { λ a. IsWithin a.kept };
 }
 
 impl<T: Instant> Duplicate for Side<T> {
     fn copy(&self) -> Result<Self, AllocError> {
-        let alloc = *self.items.allocator();
-        if self.items.is_empty() {
-            return Ok(Side {
-                items: SmallVec::new(alloc),
-                idle: self.idle,
-                sorted: SortedList::new(alloc),
-            });
-        }
+        let kept = match &self.kept {
+            Kept::Nothing { items } => Kept::Nothing { items: *items },
+            Kept::Single(single) => Kept::Single(*single),
+            Kept::Several(lists) => Kept::Several(Box::new(self.alloc, (**lists).copy()?)?),
+        };
         Ok(Side {
-            items: copy_items(alloc, &self.items)?,
-            idle: self.idle,
-            sorted: self.sorted.copy()?,
+            kept,
+            alloc: self.alloc,
         })
     }
 }
@@ -58,24 +72,21 @@ impl<T: Instant> Side<T> {
         ensures { result ≡ [] }
     {
         Side {
-            items: SmallVec::new(alloc),
-            idle: 0,
-            sorted: SortedList::new(alloc),
+            kept: Kept::Nothing { items: 0 },
+            alloc,
         }
     }
 
     /// Appends an item for which nothing is kept. It takes no memory, and fails only where there
-    /// are 2^64 - 1 of them; then all is as before.
+    /// are 2^32 - 1 of them; then all is as before.
     pub fn push_item(&mut self) -> Result<(), AllocError>
         ensures ok { OnOk result (self.new ≡ self.old ++ [] ∷ []) }
         ensures err { OnErr result (self.new ≡ self.old) }
     {
-        match self.idle.checked_add(1) {
-            Some(idle) => {
-                self.idle = idle;
-                Ok(())
-            }
-            None => Err(AllocError),
+        match &mut self.kept {
+            Kept::Nothing { items } => count_one(items),
+            Kept::Single(single) => count_one(&mut single.items),
+            Kept::Several(lists) => lists.push_item(),
         }
     }
 
@@ -87,9 +98,42 @@ impl<T: Instant> Side<T> {
             ≡ set self.old item (get_or self.old item [] ++ last ∷ [])) }
         ensures err { OnErr result (self.new ≡ self.old) }
     {
-        lay_out(&mut self.items, &mut self.idle, item)?;
-        let list = self.items.get_mut(item).unwrap();
-        add(list, &mut self.sorted, last)
+        match &mut self.kept {
+            Kept::Several(lists) => return lists.add(item, last),
+            Kept::Nothing { items } => {
+                if let Some(value) = T::of_time(last.time) {
+                    self.kept = Kept::Single(SingleTime {
+                        items: *items,
+                        item: item as u32,
+                        place: last.place,
+                        value,
+                    });
+                    return Ok(());
+                }
+            }
+            Kept::Single(_) => {}
+        }
+        let mut lists = self.laid_out()?;
+        lists.add(item, last)?;
+        self.kept = Kept::Several(Box::new(self.alloc, lists)?);
+        Ok(())
+    }
+
+    // The same instance times, each item's in a list of its own, unless memory runs out.
+    fn laid_out(&self) -> Result<ItemLists<T>, AllocError>
+        ensures { IfOk result (λ lists. lists ≡ self.now) }
+    {
+        match &self.kept {
+            Kept::Nothing { items } => Ok(ItemLists::of(self.alloc, *items as usize)),
+            Kept::Single(single) => {
+                let mut lists = ItemLists::of(self.alloc, single.items as usize);
+                let place = single.place;
+                let time = single.value.time();
+                lists.add(single.item as usize, InstanceTime { place, time })?;
+                Ok(lists)
+            }
+            Kept::Several(lists) => (**lists).copy(),
+        }
     }
 
     /// Takes out of an item what is of places before this one. It takes no memory.
@@ -97,8 +141,15 @@ impl<T: Instant> Side<T> {
         requires { item < length self.old }
         ensures { self.new ≡ set self.old item (from_place place (get_or self.old item [])) }
     {
-        if let Some(list) = self.items.get_mut(item) {
-            cut(list, &mut self.sorted, place);
+        match &mut self.kept {
+            Kept::Nothing { .. } => {}
+            Kept::Single(single) => {
+                if single.item as usize == item && single.place < place {
+                    let items = single.items;
+                    self.clear(items);
+                }
+            }
+            Kept::Several(lists) => lists.cut(item, place),
         }
     }
 
@@ -106,19 +157,23 @@ impl<T: Instant> Side<T> {
     pub fn cut_later(&mut self, place: usize)
         ensures { self.new ≡ map (before_place place) self.old }
     {
-        for item in 0..self.items.len() {
-            self.cut_later_at(item, place);
+        match &mut self.kept {
+            Kept::Nothing { .. } => {}
+            Kept::Single(single) => {
+                if single.place >= place {
+                    let items = single.items;
+                    self.clear(items);
+                }
+            }
+            Kept::Several(lists) => lists.cut_later(place),
         }
     }
 
-    // Takes out of an item what is of this place or a later one.
-    fn cut_later_at(&mut self, item: usize, place: usize)
-        requires { item < length self.old }
-        ensures { self.new ≡ set self.old item (before_place place (get_or self.old item [])) }
+    // Keeps nothing, for so many items.
+    fn clear(&mut self, items: u32)
+        ensures { self.new ≡ replicate items [] }
     {
-        if let Some(list) = self.items.get_mut(item) {
-            cut_later(list, &mut self.sorted, place);
-        }
+        self.kept = Kept::Nothing { items };
     }
 
     /// Whether nothing is kept for an item. It takes no memory.
@@ -126,9 +181,10 @@ impl<T: Instant> Side<T> {
         requires { item < length self.now }
         ensures { result ≡ true → (get_or self.now item [] ≡ []) }
     {
-        match self.items.get(item) {
-            Some(list) => list.is_empty(),
-            None => true,
+        match &self.kept {
+            Kept::Nothing { .. } => true,
+            Kept::Single(single) => single.item as usize != item,
+            Kept::Several(lists) => lists.is_idle(item),
         }
     }
 
@@ -138,9 +194,10 @@ impl<T: Instant> Side<T> {
         ensures { result ≡ false → (from_place place (get_or self.now item [])
             ≡ get_or self.now item []) }
     {
-        match self.items.get(item) {
-            Some(list) => list.has_before(place),
-            None => false,
+        match &self.kept {
+            Kept::Nothing { .. } => false,
+            Kept::Single(single) => single.item as usize == item && single.place < place,
+            Kept::Several(lists) => lists.has_before(item, place),
         }
     }
 
@@ -150,9 +207,9 @@ impl<T: Instant> Side<T> {
         ensures { result ≡ false → (last_alone (get_or self.now item [])
             ≡ get_or self.now item []) }
     {
-        match self.items.get(item) {
-            Some(list) => list.has_more(),
-            None => false,
+        match &self.kept {
+            Kept::Several(lists) => lists.has_more(item),
+            _ => false,
         }
     }
 
@@ -161,8 +218,10 @@ impl<T: Instant> Side<T> {
         requires { item < length self.old }
         ensures { self.new ≡ set self.old item (last_alone (get_or self.old item [])) }
     {
-        if let Some(list) = self.items.get_mut(item) {
-            keep_last(list, &mut self.sorted);
+        match &mut self.kept {
+            Kept::Nothing { .. } => {}
+            Kept::Single(_) => {}
+            Kept::Several(lists) => lists.keep_last(item),
         }
     }
 
@@ -173,8 +232,13 @@ impl<T: Instant> Side<T> {
         ensures { EndsWith (get_or self.old item [])
             (λ first last. self.new ≡ set self.old item first) }
     {
-        if let Some(list) = self.items.get_mut(item) {
-            undo(list, &mut self.sorted);
+        match &mut self.kept {
+            Kept::Nothing { .. } => {}
+            Kept::Single(single) => {
+                let items = single.items;
+                self.clear(items);
+            }
+            Kept::Several(lists) => lists.undo(item),
         }
     }
 
@@ -182,7 +246,11 @@ impl<T: Instant> Side<T> {
     pub fn values(&self) -> &[T]
         ensures { result.now ≡ merged T.at_most T.choose self.now }
     {
-        self.sorted.as_slice()
+        match &self.kept {
+            Kept::Nothing { .. } => &[],
+            Kept::Single(single) => single.value.alone(),
+            Kept::Several(lists) => lists.values(),
+        }
     }
 
     /// The first value that is not less than this one; None exactly where there is none. It takes
@@ -190,7 +258,16 @@ impl<T: Instant> Side<T> {
     pub fn first_from(&self, value: T) -> Option<T>
         ensures { result ≡ find (T.at_most value) (merged T.at_most T.choose self.now) }
     {
-        self.sorted.first_from(value)
+        match &self.kept {
+            Kept::Nothing { .. } => None,
+            Kept::Single(single) => {
+                if single.value.is_before(value) {
+                    return None;
+                }
+                Some(single.value)
+            }
+            Kept::Several(lists) => lists.first_from(value),
+        }
     }
 
     /// The first value that is greater than this one; None exactly where there is none. It takes no
@@ -199,35 +276,29 @@ impl<T: Instant> Side<T> {
         ensures { result ≡ find (λ other. not (T.at_most other value))
             (merged T.at_most T.choose self.now) }
     {
-        self.sorted.first_after(value)
+        match &self.kept {
+            Kept::Nothing { .. } => None,
+            Kept::Single(single) => {
+                if value.is_before(single.value) {
+                    return Some(single.value);
+                }
+                None
+            }
+            Kept::Several(lists) => lists.first_after(value),
+        }
     }
 }
 
-// The copies of the times of items.
-fn copy_items(alloc: Global, items: &[ItemTimes]) -> Result<SmallVec<ItemTimes, 1>, AllocError>
-    ensures { IfOk result (λ copies. copies.items ≡ items.now) }
+// One more item; fails only where there are 2^32 - 1, and then there are as many as before.
+fn count_one(items: &mut u32) -> Result<(), AllocError>
+    ensures ok { OnOk result (items.new ≡ suc items.old) }
+    ensures err { OnErr result (items.new ≡ items.old) }
 {
-    let mut copies = SmallVec::new(alloc);
-    for item in items {
-        copies.push(item.copy()?)?;
+    match items.checked_add(1) {
+        Some(more) => {
+            *items = more;
+            Ok(())
+        }
+        None => Err(AllocError),
     }
-    Ok(copies)
-}
-
-// Makes lists for the items up to this one. Where memory runs out all items are as before.
-fn lay_out(
-    items: &mut SmallVec<ItemTimes, 1>,
-    idle: &mut usize,
-    item: usize,
-) -> Result<(), AllocError>
-    requires { item < length (with_idle idle.old items.old.items) }
-    ensures same { with_idle idle.new items.new.items ≡ with_idle idle.old items.old.items }
-    ensures ok { OnOk result (item < length items.new.items) }
-{
-    while items.len() <= item {
-        let alloc = *items.allocator();
-        items.push(ItemTimes::new(alloc))?;
-        *idle -= 1;
-    }
-    Ok(())
 }

@@ -4,7 +4,6 @@ ghost use Rattle.std.specs.Prelude.{◌≡◌, List, [], true, OnOk, OnErr, not,
 ghost use Rattle.smil_model.specs.Rising.{IsRising, IsPlaceFrom, put_in, taken_out};
 
 use super::instant::Instant;
-use super::short_list::ShortList;
 use smil_model::Duplicate;
 use std::alloc::{AllocError, Global};
 use std::marker::Model;
@@ -46,7 +45,7 @@ pub fn put_in<T: Instant>(values: &mut Vec<T>, value: T) -> Result<(), AllocErro
 /// Values in rising order, repetitions kept; seen as their list.
 #[derive(Drop)]
 pub struct SortedList<T: Instant> {
-    values: ShortList<T>,
+    values: Vec<T>,
 }
 
 impl<T: Instant> Model for SortedList<T> {
@@ -55,15 +54,15 @@ impl<T: Instant> Model for SortedList<T> {
 
     ghost Value = { List T };
 
-    ghost view = { λ a. a.values };
+    ghost view = { λ a. a.values.items };
 
-    ghost invariant = { λ a. IsRising T.at_most a.values };
+    ghost invariant = { λ a. IsRising T.at_most a.values.items };
 }
 
 impl<T: Instant> Duplicate for SortedList<T> {
     fn copy(&self) -> Result<Self, AllocError> {
         Ok(SortedList {
-            values: self.values.copy()?,
+            values: Vec::from_slice(*self.values.allocator(), &self.values)?,
         })
     }
 }
@@ -74,7 +73,7 @@ impl<T: Instant> SortedList<T> {
         ensures { result ≡ [] }
     {
         SortedList {
-            values: ShortList::new(alloc),
+            values: Vec::new(alloc),
         }
     }
 
@@ -83,9 +82,7 @@ impl<T: Instant> SortedList<T> {
         ensures ok { OnOk result (self.new ≡ put_in T.at_most value self.old) }
         ensures err { OnErr result (self.new ≡ self.old) }
     {
-        let place = place_from(self.values.as_slice(), value);
-        self.values.insert(place, value)?;
-        Ok(())
+        put_in(&mut self.values, value)
     }
 
     /// Takes a value out once, if it is there. It takes no memory.
@@ -93,7 +90,7 @@ impl<T: Instant> SortedList<T> {
         ensures { self.new ≡ taken_out T.at_most value self.old }
     {
         let place = place_from(self.values.as_slice(), value);
-        if place < self.values.len() && !value.is_before(self.values.at(place)) {
+        if place < self.values.len() && !value.is_before(self.values[place]) {
             self.values.remove(place);
         }
     }

@@ -11,7 +11,7 @@ use Rattle.smil_model.specs.declared.diary.Entry.{Entry}
 use Rattle.smil_model.specs.declared.diary.LogEntry.{LogEntry}
 use Rattle.smil_model.specs.diary.Diary.{History}
 use Rattle.smil_instance_rows.specs.declared.item_times.InstanceTime.{InstanceTime}
-use Rattle.smil_model.specs.document.Document.{is_element, elements, node_at, lineage, ancestors, has_serial}
+use Rattle.smil_model.specs.document.Document.{is_element, elements, node_at, lineage, ancestors, has_serial, serial_of}
 use Rattle.smil_model.specs.document.Valid.{IsDistinct}
 use Rattle.smil_model.specs.reach.Reach.{is_option}
 use Rattle.smil_instances.specs.declared.source.Source.{Source}
@@ -32,7 +32,7 @@ use Rattle.smil_laws.proofs.ListMembers.{differ_each}
 use Rattle.smil_graph.proofs.GraphAnswers.{element_at, only_element}
 use Rattle.smil_instances.specs.Dependents.{DocumentDependents, AreDependentsOf, cells_in, keys_cell, source_in}
 use Rattle.smil_instances.specs.Intake.{ItemCounts, shape_of, shape_in, AreRowsOf, IsCellOf, HasItem, is_concerned_cell, concerned_under, keyed_by, remaining_at, remaining_under}
-use Rattle.smil_instances.proofs.RowShapes.{item_cell, serial_there}
+use Rattle.smil_instances.proofs.RowShapes.{item_cell}
 
 -- ---- elements by their places
 
@@ -90,14 +90,14 @@ item_there nodes rows cell are has = by (slice_get (elements nodes) cell.row) re
 
 -- ---- the element of a row
 
-serial_of_some : (o : Option Node) (who : ℕ) → option_map (λ (n : Node). n.serial) o ≡ Some who → (e : Node) × (o ≡ Some e) × (e.serial ≡ who)
+serial_of_some : (o : Option Node) (who : ℕ) → serial_of o ≡ Some who → (e : Node) × (o ≡ Some e) × (e.serial ≡ who)
 serial_of_some None who q = cc
 serial_of_some (Some e) who q = (e, refl, cc)
 
 module _ (nodes : List Node) (distinct : IsDistinct nodes) where
-  pub cell_known : (rows : List ElementTimes) (dependents : DocumentDependents) (cell : Cell) (who : ℕ) (s : Source) → AreRowsOf nodes rows → AreDependentsOf nodes dependents → option_map (λ (r : ElementTimes). r.serial) (slice_get rows cell.row) ≡ Some who → s ≡ source_in dependents.rows cell → IsCellOf nodes cell who s
-  cell_known rows dependents cell who s are known q is =
-      let e = serial_of_some (slice_get (elements nodes) cell.row) who (sym (serial_there nodes rows (elements nodes) cell.row are) ∙ q) in
+  pub cell_known : (dependents : DocumentDependents) (cell : Cell) (who : ℕ) (s : Source) → AreDependentsOf nodes dependents → serial_of (slice_get (elements nodes) cell.row) ≡ Some who → s ≡ source_in dependents.rows cell → IsCellOf nodes cell who s
+  cell_known dependents cell who s known q is =
+      let e = serial_of_some (slice_get (elements nodes) cell.row) who q in
       record {
         element = e.0;
         here = e.1;

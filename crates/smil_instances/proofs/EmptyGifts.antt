@@ -1,6 +1,6 @@
 -- Entries that give nothing to an item.
 use Rattle.std.proofs.Common.{◌≡◌, refl, sym, ◌∙◌, ap, ℕ, List, length, Option, Some, None, false}
-use Rattle.std.specs.Prelude.{not, is_some, slice_get, option_map}
+use Rattle.std.specs.Prelude.{not, is_some, slice_get}
 use Rattle.smil_model.specs.declared.times.Time.{Time}
 use Rattle.smil_model.specs.declared.diary.Entry.{Entry}
 use Rattle.smil_model.specs.declared.diary.LogEntry.{LogEntry}
@@ -11,7 +11,7 @@ use Rattle.smil_model.specs.declared.document.Edge.{Edge}
 use Rattle.smil_model.specs.declared.document.Edge.TheVariants.{End}
 use Rattle.smil_model.specs.declared.document.Item.{Item}
 use Rattle.smil_model.specs.declared.document.Item.TheVariants.{Offset, Sync, Event, Repeat, Key, Indefinite}
-use Rattle.smil_model.specs.document.Document.{elements, element_named, previous_in_seq, target, time_parent}
+use Rattle.smil_model.specs.document.Document.{elements, element_named, previous_in_seq, serial_of, target, time_parent}
 use Rattle.smil_model.specs.document.Defaults.{items_of}
 use Rattle.smil_model.specs.diary.Diary.{History, up_to, with_entry}
 use Rattle.smil_model.specs.diary.Plays.{is_birth_under}
@@ -19,15 +19,14 @@ use Rattle.smil_model.specs.interval.Instances.{edge_time, is_press}
 use Rattle.smil_model.specs.reach.Reach.{subject_of}
 use Rattle.smil_laws.specs.Resolved.{is_opening}
 use Rattle.smil_instance_rows.specs.declared.cell.Cell.{Cell}
-use Rattle.smil_instance_rows.specs.Rows.{ElementTimes, at_place}
+use Rattle.smil_instance_rows.specs.Rows.{at_place}
 use Rattle.smil_instances.specs.declared.source.Source.TheVariants as source
 use Rattle.smil_instances.specs.Laws.{IsUpTo}
 use Rattle.smil_instances.specs.Sources.{eventbase, source_at, source_by, source_of, syncbase_or}
 use Rattle.smil_instances.specs.Contribution.{given_at, given_edge, given_event, given_repeat, may_give, offset_given}
-use Rattle.smil_instances.specs.Intake.{AreRowsOf, given_item, given_to, given_under}
+use Rattle.smil_instances.specs.Intake.{given_item, given_to, given_under}
 use Rattle.smil_instances.specs.SettledTimes.{event_instances, heard_time, instances_of, named_instances, occurs_event, occurs_key, occurs_repeat, offset_instances, repeat_instances}
 use Rattle.smil_instances.proofs.ConcernedCells.{source_here}
-use Rattle.smil_instances.proofs.RowShapes.{serial_there}
 use Rattle.smil_instances.proofs.NextItemTimes.{next_event, next_named, next_of, next_offset, next_repeat}
 use Rattle.smil_instances.proofs.NotedEntry.{kept-next}
 use Rattle.smil_instances.proofs.UnconcernedItems.{no_press}
@@ -82,13 +81,12 @@ module _ (h : History) (y : Entry) where
       by (Some e) here = by_item e (slice_get (items_of h.nodes cell.side e) cell.item) (ap (may_give (subject_of h.log y.step) y.step) (sym (source_here h.nodes cell e here)) ∙ q)
 
   -- and so is one of no row
-  no_element : (cell : Cell) (o : Option Node) → option_map (λ (n : Node). n.serial) o ≡ None → given_under h y cell o ≡ None
+  no_element : (cell : Cell) (o : Option Node) → serial_of o ≡ None → given_under h y cell o ≡ None
   no_element cell None q = refl
   no_element cell (Some e) q = cc
 
-  pub none_there : (rows : List ElementTimes) (cell : Cell) → AreRowsOf h.nodes rows → None ≡ option_map (λ (r : ElementTimes). r.serial) (slice_get rows cell.row) → given_to h y cell ≡ None
-  none_there rows cell are q =
-      no_element cell (slice_get (elements h.nodes) cell.row) (sym (serial_there h.nodes rows (elements h.nodes) cell.row are) ∙ sym q)
+  pub none_there : (cell : Cell) → None ≡ serial_of (slice_get (elements h.nodes) cell.row) → given_to h y cell ≡ None
+  none_there cell q = no_element cell (slice_get (elements h.nodes) cell.row) (sym q)
 
 -- ---- an entry that is no birth and gives nothing leaves what is kept
 

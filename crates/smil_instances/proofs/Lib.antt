@@ -45,3 +45,4 @@ pub mod Going
 pub mod Early
 pub mod AlikeDependents
 pub mod IdleCells
+pub mod JoinedRows

@@ -191,15 +191,6 @@ module _ (nodes : List Node) where
       let inside : cell.item < length (items_of nodes cell.side e) = slice_get_within (items_of nodes cell.side e) cell.item item at in
       record { row = there.0; item = omega (arith, inside, long) }
 
-  pub serial_there : (rows : List ElementTimes) (es : List Node) (i : ℕ) → map shape_of rows ≡ map (shape_in nodes) es → option_map (λ (r : ElementTimes). r.serial) (slice_get rows i) ≡ option_map (λ (n : Node). n.serial) (slice_get es i)
-  serial_there [] [] i q = refl
-  serial_there [] (x ∷ xs) i q = cc
-  serial_there (r ∷ rs) [] i q = cc
-  serial_there (r ∷ rs) (x ∷ xs) zero q =
-      let head : shape_of r ≡ shape_in nodes x = cc in
-      ap (λ (s : ItemCounts). Some s.serial) head
-  serial_there (r ∷ rs) (x ∷ xs) (suc i) q = let tail : map shape_of rs ≡ map (shape_in nodes) xs = cc in serial_there rs xs i tail
-
 -- ---- rows of a history
 
 module _ (h : History) where

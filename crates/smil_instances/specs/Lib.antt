@@ -14,3 +14,4 @@ pub mod Sources
 pub mod Spread
 pub mod Updates
 pub mod Noted
+pub mod Joined

@@ -6,28 +6,26 @@ ghost use Rattle.smil_model.specs.declared.document.Edge.TheVariants as edge;
 ghost use Rattle.smil_model.specs.reach.Reach.{subject_of};
 ghost use Rattle.smil_instances.specs.Contribution.{is_edge, may_give};
 ghost use Rattle.smil_instances.specs.Entry.{HasArrived, HasDependents};
-ghost use Rattle.smil_instances.specs.Intake.{history_with, default_of, IsCellOf, IsUnstated, given_to as gift, adds_to, AreRowsOf};
+ghost use Rattle.smil_instances.specs.Intake.{history_with, default_of, IsCellOf, IsUnstated, given_to as gift, adds_to};
 
 use super::arrival::Arrival;
 use super::contribution::given;
 use super::items::{CellItem, ListItem};
 use super::source::Source;
 use super::steps::subject;
-use smil_instance_rows::{Add, Cell, InstanceTime, Rows};
+use smil_instance_rows::{Add, Cell, InstanceTime};
 use smil_model::{Edge, Item, Step};
 use std::alloc::AllocError;
 
 /// Puts what the last entry gives to the items of these cells into a list, in their order, in the
 /// place of what is there, unless memory runs out.
 pub(crate) fn adds_of(
-    rows: &Rows,
     cells: &[Cell],
     arrival: &Arrival<'_>,
     adds: &mut Vec<Add>,
 ) -> Result<(), AllocError>
     requires hand { HasArrived arrival.now }
     requires dependents { HasDependents arrival.now }
-    requires rows { AreRowsOf arrival.now.history.tree.now.nodes rows.now }
     ensures { OnOk result ((before : List AnyEntry) (y : AnyEntry)
         → arrival.now.history.book.now ≡ before ++ y ∷ [] → adds.new.items
         ≡ adds_to (history_with arrival.now.history before) y cells.now) }
@@ -36,7 +34,7 @@ pub(crate) fn adds_of(
     let step = arrival.last_entry().step;
     let on = subject(arrival.history.log, step);
     for cell in cells {
-        if let Some(kept) = given_to(rows, *cell, on, step, arrival) {
+        if let Some(kept) = given_to(*cell, on, step, arrival) {
             adds.push(Add { cell: *cell, kept })?;
         }
     }
@@ -45,13 +43,7 @@ pub(crate) fn adds_of(
 
 // What the last entry, which has this step and is on this element or on none, gives to a cell's
 // item.
-fn given_to(
-    rows: &Rows,
-    cell: Cell,
-    on: Option<u32>,
-    step: Step,
-    arrival: &Arrival<'_>,
-) -> Option<InstanceTime>
+fn given_to(cell: Cell, on: Option<u32>, step: Step, arrival: &Arrival<'_>) -> Option<InstanceTime>
     requires hand { HasArrived arrival.now }
     requires on { (before : List AnyEntry) (y : AnyEntry)
         → arrival.now.history.book.now ≡ before ++ y ∷ []
@@ -59,7 +51,6 @@ fn given_to(
     requires step { (before : List AnyEntry) (y : AnyEntry)
         → arrival.now.history.book.now ≡ before ++ y ∷ [] → step ≡ y.step }
     requires dependents { HasDependents arrival.now }
-    requires rows { AreRowsOf arrival.now.history.tree.now.nodes rows.now }
     ensures { (before : List AnyEntry) (y : AnyEntry)
         → arrival.now.history.book.now ≡ before ++ y ∷ []
         → result ≡ gift (history_with arrival.now.history before) y cell }
@@ -69,7 +60,7 @@ fn given_to(
     if !may_give(source, on, step) {
         return None;
     }
-    let who = rows.serial_at(cell.row)?;
+    let who = arrival.history.tree.element_at(cell.row)?;
     given_item(arrival, CellItem { cell, who, source })
 }
 

@@ -3,7 +3,7 @@
 ghost use Rattle.std.specs.Prelude.{◌≡◌, IfOk};
 ghost use Rattle.smil_instances.specs.Dependents.{AreDependentsOf, cells_in, keyed_in, source_in};
 
-use super::dependents_row::DependentsRow;
+use super::dependent_lists::DependentLists;
 use super::elements::{children_before, places_of};
 use super::fill::fill;
 use super::fresh::fresh_rows;
@@ -21,7 +21,7 @@ use std::marker::Model;
 /// the list of what is kept of each element, in document order, and the list of the cells of each
 /// key, from 0.
 pub struct Dependents {
-    rows: Vec<DependentsRow>,
+    rows: DependentLists,
     keys: Vec<GrowingList<Cell>>,
 }
 
@@ -40,7 +40,7 @@ impl Model for Dependents {
 
     ghost Value = { DocumentDependents };
 
-    ghost view = { λ a. record { rows = a.rows.items; keys = a.keys.items } };
+    ghost view = { λ a. record { rows = a.rows; keys = a.keys.items } };
 }
 
 impl Dependents {
@@ -55,17 +55,17 @@ impl Dependents {
         let keys = cells_by_key(alloc, &rows)?;
         let places = places_of(alloc, tree, whos)?;
         fill(&mut rows, tree, &places, whos)?;
-        Ok(Dependents { rows, keys })
+        Ok(Dependents {
+            rows: DependentLists::of(alloc, &rows)?,
+            keys,
+        })
     }
 
     /// The source of a cell's item; nothing where there is no such item. It takes no memory.
     pub fn source(&self, cell: Cell) -> Source
         ensures { result ≡ source_in self.now.rows cell }
     {
-        match self.rows.get(cell.row) {
-            Some(row) => row.source(cell.side, cell.item),
-            None => Source::Nothing,
-        }
+        self.rows.source(cell)
     }
 
     /// The cells that an entry on the element at a place among the elements can concern, which is a
@@ -73,10 +73,7 @@ impl Dependents {
     pub fn cells(&self, row: usize, is_birth: bool) -> &[Cell]
         ensures { result.now ≡ cells_in self.now.rows row is_birth }
     {
-        match self.rows.get(row) {
-            Some(row) => row.cells(is_birth),
-            None => &[],
-        }
+        self.rows.cells(row, is_birth)
     }
 
     /// The cells that a press of an access key can concern: those whose items wait for it. It takes

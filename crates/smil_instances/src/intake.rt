@@ -48,7 +48,7 @@ pub(crate) fn take_in(
     only_concerned_items_change();
     let entry = arrival.last_entry();
     let cells = concerned(rows, arrival, entry.step);
-    adds_of(rows, cells, arrival, adds)?;
+    adds_of(cells, arrival, adds)?;
     let loses = add_noted(rows, cells, adds.as_slice(), arrival, notes)?;
     if !loses {
         return Ok(());

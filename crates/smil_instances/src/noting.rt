@@ -127,7 +127,7 @@ fn loses(rows: &Rows, cell: Cell, arrival: &Arrival<'_>) -> bool
     if rows.is_idle(cell) {
         return false;
     }
-    let who = rows.serial_at(cell.row).unwrap();
+    let who = arrival.history.tree.element_at(cell.row).unwrap();
     let source = arrival.dependents.source(cell);
     let own = CellItem { cell, who, source };
     match remainder_of(own, arrival.history.tree, arrival.history.book) {

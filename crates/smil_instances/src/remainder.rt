@@ -74,7 +74,7 @@ fn trim_at(rows: &mut Rows, cell: Cell, arrival: &Arrival<'_>)
     if rows.is_idle(cell) {
         return;
     }
-    let who = rows.serial_at(cell.row).unwrap();
+    let who = arrival.history.tree.element_at(cell.row).unwrap();
     let source = arrival.dependents.source(cell);
     let own = CellItem { cell, who, source };
     trim(rows, own, arrival.history.tree, arrival.history.book);

@@ -1,5 +1,4 @@
 use Rattle.std.proofs.Common.{sym, ◌∙◌, ap, ℕ, Option}
-use Rattle.smil_model.specs.declared.diary.Entry.{Entry}
 use Rattle.smil_model.specs.diary.Diary.{History}
 use Rattle.smil_instances.specs.Contribution.{may_give}
 use Rattle.smil_instances.specs.Intake.{history_of}
@@ -21,9 +20,9 @@ returns-then-not-may_give c = λ before y q.
 pub returns-in_err-who : goal.returns-in_err-who
 returns-in_err-who c = λ before y q.
     c.from_residual.ensures
-    ∙ sym (none_there (history_of c.args.arrival.now.history.tree.now c.args.arrival.now.history.log.now before) y c.args.rows.now c.args.cell c.requires.rows c.in_err-who.ensures)
+    ∙ sym (none_there (history_of c.args.arrival.now.history.tree.now c.args.arrival.now.history.log.now before) y c.args.cell c.in_err-who.ensures)
 
 pub given_item-requires-clause-cell : goal.given_item-requires-clause-cell
 given_item-requires-clause-cell c =
-    cell_known c.args.arrival.now.history.tree.now.nodes c.valid.ensures.numbered.distinct c.args.rows.now c.args.arrival.now.dependents.now c.args.cell c.in_ok-who.who c.source-source.result
-    c.requires.rows c.requires.dependents (sym c.in_ok-who.ensures) c.source-source.ensures
+    cell_known c.args.arrival.now.history.tree.now.nodes c.valid.ensures.numbered.distinct c.args.arrival.now.dependents.now c.args.cell c.in_ok-who.who c.source-source.result
+    c.requires.dependents (sym c.in_ok-who.ensures) c.source-source.ensures

@@ -23,12 +23,6 @@ concerned-cells-requires-clause-rows c =
     ap (map shape_of) (c.requires.rows hand.past.diary hand.entry hand.is_entry.same_diary)
     ∙ settled_shape (history_of c.args.arrival.now.history.tree.now c.args.arrival.now.history.log.now hand.past.diary)
 
-pub adds_of-requires-clause-rows : goal.adds_of-requires-clause-rows
-adds_of-requires-clause-rows c =
-    let hand = c.requires.hand in
-    ap (map shape_of) (c.requires.rows hand.past.diary hand.entry hand.is_entry.same_diary)
-    ∙ settled_shape (history_of c.args.arrival.now.history.tree.now c.args.arrival.now.history.log.now hand.past.diary)
-
 pub add_noted-requires-clause-rows : goal.add_noted-requires-clause-rows
 add_noted-requires-clause-rows c =
     let hand = c.requires.hand in

@@ -17,14 +17,14 @@ returns-then-is_idle c = λ idle log.
 
 pub remainder_of-requires-clause-cell : goal.remainder_of-requires-clause-cell
 remainder_of-requires-clause-cell c =
-    cell_known c.args.arrival.now.history.tree.now.nodes c.valid.ensures.numbered.distinct c.args.rows.now c.args.arrival.now.dependents.now c.args.cell c.unwrap-who.result c.source-source.result
-    c.requires.rows c.requires.dependents (sym c.serial_at.ensures ∙ c.unwrap-who.ensures) c.source-source.ensures
+    cell_known c.args.arrival.now.history.tree.now.nodes c.valid.ensures.numbered.distinct c.args.arrival.now.dependents.now c.args.cell c.unwrap-who.result c.source-source.result
+    c.requires.dependents (sym c.element_at.ensures ∙ c.unwrap-who.ensures) c.source-source.ensures
 
 pub remainder_of-requires-clause-base : goal.remainder_of-requires-clause-base
 remainder_of-requires-clause-base c =
     base_there c.args.arrival.now.history.tree.now.nodes c.valid.ensures.numbered.distinct c.bases_are_elements.ensures c.args.cell c.unwrap-who.result c.source-source.result
-    (cell_known c.args.arrival.now.history.tree.now.nodes c.valid.ensures.numbered.distinct c.args.rows.now c.args.arrival.now.dependents.now c.args.cell c.unwrap-who.result c.source-source.result
-    c.requires.rows c.requires.dependents (sym c.serial_at.ensures ∙ c.unwrap-who.ensures) c.source-source.ensures)
+    (cell_known c.args.arrival.now.history.tree.now.nodes c.valid.ensures.numbered.distinct c.args.arrival.now.dependents.now c.args.cell c.unwrap-who.result c.source-source.result
+    c.requires.dependents (sym c.element_at.ensures ∙ c.unwrap-who.ensures) c.source-source.ensures)
 
 pub has_more-requires : goal.has_more-requires
 has_more-requires c = item_there c.args.arrival.now.history.tree.now.nodes c.args.rows.now c.args.cell c.requires.rows c.requires.cell
@@ -37,8 +37,8 @@ returns-in-Last c = λ few log.
     let nodes = c.args.arrival.now.history.tree.now.nodes in
     let book = c.args.arrival.now.history.book.now in
     let kept = cell_of c.args.rows.now c.args.cell in
-    let is = cell_known nodes c.valid.ensures.numbered.distinct c.args.rows.now c.args.arrival.now.dependents.now c.args.cell c.unwrap-who.result c.source-source.result
-    c.requires.rows c.requires.dependents (sym c.serial_at.ensures ∙ c.unwrap-who.ensures) c.source-source.ensures in
+    let is = cell_known nodes c.valid.ensures.numbered.distinct c.args.arrival.now.dependents.now c.args.cell c.unwrap-who.result c.source-source.result
+    c.requires.dependents (sym c.element_at.ensures ∙ c.unwrap-who.ensures) c.source-source.ensures in
     sym (trimmed_here nodes c.valid.ensures.numbered.distinct log book c.args.cell c.unwrap-who.result c.source-source.result is kept)
     ∙ sym (c.remainder_of.ensures log kept)
     ∙ ap (λ (r : Remainder). kept_by r kept) c.in-Last.is
@@ -49,8 +49,8 @@ returns-in-From c = λ late log.
     let nodes = c.args.arrival.now.history.tree.now.nodes in
     let book = c.args.arrival.now.history.book.now in
     let kept = cell_of c.args.rows.now c.args.cell in
-    let is = cell_known nodes c.valid.ensures.numbered.distinct c.args.rows.now c.args.arrival.now.dependents.now c.args.cell c.unwrap-who.result c.source-source.result
-    c.requires.rows c.requires.dependents (sym c.serial_at.ensures ∙ c.unwrap-who.ensures) c.source-source.ensures in
+    let is = cell_known nodes c.valid.ensures.numbered.distinct c.args.arrival.now.dependents.now c.args.cell c.unwrap-who.result c.source-source.result
+    c.requires.dependents (sym c.element_at.ensures ∙ c.unwrap-who.ensures) c.source-source.ensures in
     sym (trimmed_here nodes c.valid.ensures.numbered.distinct log book c.args.cell c.unwrap-who.result c.source-source.result is kept)
     ∙ sym (c.remainder_of.ensures log kept)
     ∙ ap (λ (r : Remainder). kept_by r kept) c.in-From.is
@@ -61,8 +61,8 @@ returns-in-All c = λ all log.
     let nodes = c.args.arrival.now.history.tree.now.nodes in
     let book = c.args.arrival.now.history.book.now in
     let kept = cell_of c.args.rows.now c.args.cell in
-    let is = cell_known nodes c.valid.ensures.numbered.distinct c.args.rows.now c.args.arrival.now.dependents.now c.args.cell c.unwrap-who.result c.source-source.result
-    c.requires.rows c.requires.dependents (sym c.serial_at.ensures ∙ c.unwrap-who.ensures) c.source-source.ensures in
+    let is = cell_known nodes c.valid.ensures.numbered.distinct c.args.arrival.now.dependents.now c.args.cell c.unwrap-who.result c.source-source.result
+    c.requires.dependents (sym c.element_at.ensures ∙ c.unwrap-who.ensures) c.source-source.ensures in
     sym (trimmed_here nodes c.valid.ensures.numbered.distinct log book c.args.cell c.unwrap-who.result c.source-source.result is kept)
     ∙ sym (c.remainder_of.ensures log kept)
     ∙ ap (λ (r : Remainder). kept_by r kept) c.in-All.is

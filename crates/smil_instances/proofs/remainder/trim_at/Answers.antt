@@ -21,20 +21,20 @@ trim-requires-clause-has c = item_there c.args.arrival.now.history.tree.now.node
 
 pub trim-requires-clause-cell : goal.trim-requires-clause-cell
 trim-requires-clause-cell c =
-    cell_known c.args.arrival.now.history.tree.now.nodes c.valid.ensures.numbered.distinct c.args.rows.now c.args.arrival.now.dependents.now c.args.cell c.unwrap-who.result c.source-source.result
-    c.requires.rows c.requires.dependents (sym c.serial_at.ensures ∙ c.unwrap-who.ensures) c.source-source.ensures
+    cell_known c.args.arrival.now.history.tree.now.nodes c.valid.ensures.numbered.distinct c.args.arrival.now.dependents.now c.args.cell c.unwrap-who.result c.source-source.result
+    c.requires.dependents (sym c.element_at.ensures ∙ c.unwrap-who.ensures) c.source-source.ensures
 
 pub trim-requires-clause-base : goal.trim-requires-clause-base
 trim-requires-clause-base c =
     base_there c.args.arrival.now.history.tree.now.nodes c.valid.ensures.numbered.distinct c.bases_are_elements.ensures c.args.cell c.unwrap-who.result c.source-source.result
-    (cell_known c.args.arrival.now.history.tree.now.nodes c.valid.ensures.numbered.distinct c.args.rows.now c.args.arrival.now.dependents.now c.args.cell c.unwrap-who.result c.source-source.result
-    c.requires.rows c.requires.dependents (sym c.serial_at.ensures ∙ c.unwrap-who.ensures) c.source-source.ensures)
+    (cell_known c.args.arrival.now.history.tree.now.nodes c.valid.ensures.numbered.distinct c.args.arrival.now.dependents.now c.args.cell c.unwrap-who.result c.source-source.result
+    c.requires.dependents (sym c.element_at.ensures ∙ c.unwrap-who.ensures) c.source-source.ensures)
 
 pub returns-clause-value : goal.returns-clause-value
 returns-clause-value c = λ log.
     let is : IsCellOf c.args.arrival.now.history.tree.now.nodes c.args.cell c.unwrap-who.result c.source-source.result =
-    cell_known c.args.arrival.now.history.tree.now.nodes c.valid.ensures.numbered.distinct c.args.rows.now c.args.arrival.now.dependents.now c.args.cell c.unwrap-who.result c.source-source.result
-    c.requires.rows c.requires.dependents (sym c.serial_at.ensures ∙ c.unwrap-who.ensures) c.source-source.ensures in
+    cell_known c.args.arrival.now.history.tree.now.nodes c.valid.ensures.numbered.distinct c.args.arrival.now.dependents.now c.args.cell c.unwrap-who.result c.source-source.result
+    c.requires.dependents (sym c.element_at.ensures ∙ c.unwrap-who.ensures) c.source-source.ensures in
     c.trim.ensures log
     ∙ ap (with_cell c.args.rows.now c.args.cell)
     (trimmed_here c.args.arrival.now.history.tree.now.nodes c.valid.ensures.numbered.distinct log c.args.arrival.now.history.book.now c.args.cell c.unwrap-who.result c.source-source.result is (cell_of c.args.rows.now c.args.cell))

@@ -1,12 +1,8 @@
-use Rattle.smil_instance_rows.specs.Rows.{from_place}
-use Rattle.smil_instance_rows.proofs.IdleItems.{changed_item}
-use Rattle.smil_instance_rows.proofs.MergedValues.{merged_replaced}
+use Rattle.std.proofs.Common.{◌∙◌, arith}
+use Rattle.smil_instance_rows.proofs.SingleTimes.{single_cut}
 use Rattle.smil_instance_rows.proofs.side.Side.cut.Goals as goal
 
-pub invariant_of-self : goal.invariant_of-self
-invariant_of-self g c =
-    merged_replaced g.T.Instant.at_most g.T.Instant.order g.T.Instant.choose c.self.inside.items.items c.args.item c.in-Some.list.now c.cut.new.kept c.self.inside.sorted c.cut.new.sorted c.in-Some.ensures.item.3.0 c.in-Some.ensures.value c.self.invariant c.cut.ensures.sorted
-
-pub returns-in-Some : goal.returns-in-Some
-returns-in-Some g c =
-    changed_item (from_place c.args.place) c.self.inside.idle c.args.item c.self.inside.items.items c.args.self.now c.in-Some.list.now c.cut.new.kept c.in-Some.ensures.item.3.0 c.in-Some.ensures.value c.self.view_is c.cut.ensures.kept
+pub returns-then-single-place : goal.returns-then-single-place
+returns-then-single-place g c =
+    c.clear.ensures
+    ∙ single_cut g.T.Instant.given c.self.inside.kept c.args.self.now c.self.view_is c.in-Single.single c.args.place c.args.item c.in-Single.is c.self.invariant (omega (arith, c.if-single-item.true)) (omega (arith, c.if-single-place.true))

@@ -1,8 +1,24 @@
-use Rattle.std.proofs.Common.{sym, ap, ◌∙◌}
-use Rattle.std.specs.Prelude.{find}
-use Rattle.smil_instance_rows.specs.Values.{merged}
-use Rattle.smil_instance_rows.proofs.IdleItems.{merged_idle}
+use Rattle.std.proofs.Common.{sym, ◌∙◌, ap, Some, None}
+use Rattle.std.specs.Prelude.{cond, find}
+use Rattle.std.proofs.lemmas.Bool.{not-false, not-true}
+use Rattle.smil_instance_rows.proofs.SingleTimes.{nothing_merged, single_merged}
 use Rattle.smil_instance_rows.proofs.side.Side.first_from.Goals as goal
 
-pub returns : goal.returns
-returns g c = c.first_from.ensures ∙ ap (find (g.T.Instant.at_most c.args.value)) (c.self.invariant ∙ sym (merged_idle g.T.Instant.at_most g.T.Instant.choose c.self.inside.idle c.self.inside.items.items) ∙ ap (merged g.T.Instant.at_most g.T.Instant.choose) c.self.view_is)
+pub returns-in-Nothing : goal.returns-in-Nothing
+returns-in-Nothing g c =
+    let t = g.T.Instant in
+    sym (ap (find (t.at_most c.args.value)) (nothing_merged t.given c.self.inside.kept c.args.self.now c.self.view_is t.at_most t.choose c.in-Nothing.items c.in-Nothing.is))
+
+pub returns-then-is_before : goal.returns-then-is_before
+returns-then-is_before g c =
+    let t = g.T.Instant in
+    let v = c.in-Single.single.value in
+    sym (ap (find (t.at_most c.args.value)) (single_merged t.given c.self.inside.kept c.args.self.now c.self.view_is t.at_most t.choose c.in-Single.single c.in-Single.is c.self.invariant (t.gives v))
+    ∙ ap (λ b. cond b (Some v) None) (not-true (t.at_most c.args.value c.in-Single.single.value) (sym c.is_before.ensures ∙ c.if-is_before.true)))
+
+pub returns-else-is_before : goal.returns-else-is_before
+returns-else-is_before g c =
+    let t = g.T.Instant in
+    let v = c.in-Single.single.value in
+    sym (ap (find (t.at_most c.args.value)) (single_merged t.given c.self.inside.kept c.args.self.now c.self.view_is t.at_most t.choose c.in-Single.single c.in-Single.is c.self.invariant (t.gives v))
+    ∙ ap (λ b. cond b (Some v) None) (not-false (t.at_most c.args.value c.in-Single.single.value) (sym c.is_before.ensures ∙ c.if-is_before.false)))

@@ -11,7 +11,7 @@ returns g c =
     let order = g.T.Instant.order in
     let v = c.args.value in
     let p = c.partition_point-place.result in
-    let up : IsRising le c.as_slice.result.now = subst (λ (ys : List _). IsRising le ys) (sym c.as_slice.ensures) c.self.invariant in
+    let up : IsRising le c.as_slice.result.now = subst (λ (ys : List _). IsRising le ys) (sym c.as_slice.ensures.value) c.self.invariant in
     let point = IsPartitionPoint-from_clause (λ x. not (not (le x v))) c.as_slice.result.now p c.partition_point-place.ensures.partitioned (parted_after le order v c.as_slice.result.now up) (λ a r q k. search (rules, tests)) in
     c.at.ensures
-    ∙ subst (λ (ys : List _). slice_get ys p ≡ find (λ x. not (le x v)) ys) (c.as_slice.ensures ∙ c.self.view_is) (find_after le order v c.as_slice.result.now p point)
+    ∙ subst (λ (ys : List _). slice_get ys p ≡ find (λ x. not (le x v)) ys) (c.as_slice.ensures.value ∙ c.self.view_is) (find_after le order v c.as_slice.result.now p point)

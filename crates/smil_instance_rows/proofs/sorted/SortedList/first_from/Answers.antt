@@ -8,5 +8,5 @@ returns g c =
     let le = g.T.Instant.at_most in
     let v = c.args.value in
     let p = c.place_from-place.result in
-    let at : IsPlaceFrom le c.args.self.now v p = subst (λ (ys : List _). IsPlaceFrom le ys v p) (c.as_slice.ensures ∙ c.self.view_is) c.place_from-place.ensures in
+    let at : IsPlaceFrom le c.args.self.now v p = subst (λ (ys : List _). IsPlaceFrom le ys v p) (c.as_slice.ensures.value ∙ c.self.view_is) c.place_from-place.ensures in
     c.at.ensures ∙ find_at (le v) c.args.self.now p at.1 at.2

@@ -1,5 +1,5 @@
 use Rattle.std.proofs.Common.{◌≡◌, take}
-use Rattle.smil_instance_rows.proofs.side.copy_items.Given as goal
+use Rattle.smil_instance_rows.proofs.item_lists.copy_items.Given as goal
 
 -- the copy has the elements before the present one
 abbrev pub invariant-loop-item : goal.invariant-loop-item

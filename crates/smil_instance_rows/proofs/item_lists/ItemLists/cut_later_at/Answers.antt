@@ -1,7 +1,7 @@
 use Rattle.smil_instance_rows.specs.Rows.{before_place}
 use Rattle.smil_instance_rows.proofs.IdleItems.{changed_item}
 use Rattle.smil_instance_rows.proofs.MergedValues.{merged_replaced}
-use Rattle.smil_instance_rows.proofs.side.Side.cut_later_at.Goals as goal
+use Rattle.smil_instance_rows.proofs.item_lists.ItemLists.cut_later_at.Goals as goal
 
 pub invariant_of-self : goal.invariant_of-self
 invariant_of-self g c =
