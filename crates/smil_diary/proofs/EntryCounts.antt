@@ -1,5 +1,5 @@
 -- The iteration of an element and its finished intervals, counted entry by entry.
-use Rattle.std.proofs.Common.{◌≡◌, ℕ, suc, ◌+◌, ◌-◌, Bool, true, false, ◌==◌, List, [], ◌∷◌, drop, length, refl, ap, ◌∙◌, arith, length-append}
+use Rattle.std.proofs.Common.{◌≡◌, ℕ, suc, ◌+◌, ◌-◌, Bool, true, false, ◌==◌, List, [], ◌∷◌, drop, length, refl, ap, sym, ◌∙◌, arith, length-append}
 use Rattle.std.specs.Prelude.{fold, nat_le, cond, if◌then◌else◌, Option, Some, None, is_some, option_map, unwrap_or, ℤ}
 use Rattle.std.specs.List.{count_by}
 use Rattle.std.proofs.lemmas.List.{drop-drop}
@@ -8,44 +8,20 @@ use Rattle.smil_model.specs.declared.diary.Step.{Step}
 use Rattle.smil_model.specs.declared.diary.Step.TheVariants.{Began, Repeated, Ended, Cut}
 use Rattle.smil_model.specs.declared.diary.StepKind.TheVariants as kind
 use Rattle.smil_model.specs.declared.document.Node.{Node}
-use Rattle.smil_model.specs.diary.Diary.{History, gives_birth, later_place, iteration_after, iteration_from, is_step, last_step}
+use Rattle.smil_model.specs.diary.Diary.{History, later_place, iteration_after, iteration_from, is_step, last_step}
 use Rattle.smil_model.specs.diary.Plays.{Plays, PlayEdge, FinishedInterval, plays, play_after, is_birth_under, finish_with}
 use Rattle.smil_model.specs.diary.Clocks.{outer}
 use Rattle.smil_model.specs.document.Document.{time_parent, serial_of}
 use Rattle.smil_diary.proofs.TestChoices.{chosen}
 use Rattle.smil_diary.proofs.LastPlaces.{fold-fusion, last-drop, drop_place}
-use Rattle.smil_diary.proofs.RisingPlaces.{count-cons}
+use Rattle.smil_diary.specs.declared.tally.Tally.{Tally}
+use Rattle.smil_diary.specs.Readings.{IsOf}
+use Rattle.smil_diary.specs.Tallies.{is_birth, tally_on, tally_after, tally_of}
 
 -- ---- finished intervals
 
--- whether the element plays, and how many of its intervals finished since birth
-pub record Tally : Type 0 where
-  pub playing : Bool
-  pub finished : ℕ
-
--- whether a step is a birth under this time parent
-abbrev pub is_birth : Option ℕ → Step → Bool
-is_birth None step = false
-is_birth (Some p) step = gives_birth p step
-
--- the play ends, and is counted where there was one
-abbrev pub play_ends : Tally → Tally
-play_ends t = record { playing = false; finished = t.finished + (if t.playing then 1 else 0) }
-
--- the tally after a step that is no birth
-abbrev pub tally_on : ℕ → Tally → Step → Tally
-tally_on who t (Began on begin) = if on == who then record { playing = true; finished = t.finished } else t
-tally_on who t (Ended on end') = if on == who then play_ends t else t
-tally_on who t (Cut on) = if on == who then play_ends t else t
-tally_on who t _ = t
-
--- the tally after a step: a birth forgets what finished
-abbrev pub tally_after : Option ℕ → ℕ → Tally → Step → Tally
-tally_after parent who t step =
-    if is_birth parent step then record { playing = t.playing; finished = 0 } else tally_on who t step
-
-tally_of : Plays → Tally
-tally_of so_far = record { playing = is_some so_far.present; finished = length so_far.finished }
+tallied : Plays → Tally
+tallied so_far = record { playing = is_some so_far.present; finished = length so_far.finished }
 
 plays_after : History → ℕ → Plays → Entry → Plays
 plays_after h who so_far x =
@@ -58,44 +34,70 @@ births-same None step = refl
 births-same (Some p) step = refl
 
 finish-counts : (present : Option PlayEdge) (finish : PlayEdge) (was_cut : Bool) (done : List FinishedInterval)
-    → length (finish_with present finish was_cut done) ≡ length done + (if is_some present then 1 else 0)
-finish-counts None finish was_cut done = omega arith
+    → length (finish_with present finish was_cut done) ≡ (if is_some present then length done + 1 else length done)
+finish-counts None finish was_cut done = refl
 finish-counts (Some begin) finish was_cut done = grind (arith, length-append)
 
 abbrev made : Bool → ℕ → Tally
 made playing finished = record { playing = playing; finished = finished }
 
 tally-on : (h : History) (who : ℕ) (moment : ℤ) (so_far : Plays) (step : Step) →
-    tally_of (play_after h who moment so_far step) ≡ tally_on who (tally_of so_far) step
-unfolding tally_of
-tally-on h who moment so_far (Began on begin) = chosen tally_of (λ t. t) (on == who) _ _ _ _ refl refl
+    tallied (play_after h who moment so_far step) ≡ tally_on who (tallied so_far) step
+unfolding tallied
+tally-on h who moment so_far (Began on begin) = chosen tallied (λ t. t) (on == who) _ _ _ _ refl refl
 tally-on h who moment so_far (Ended on end') =
-    chosen tally_of (λ t. t) (on == who) _ _ _ _ (ap (λ n. made false n) (finish-counts so_far.present (record { value = end'; moment = moment }) false so_far.finished)) refl
+    chosen tallied (λ t. t) (on == who) _ _ _ _ (ap (λ n. made false n) (finish-counts so_far.present (record { value = end'; moment = moment }) false so_far.finished)) refl
 tally-on h who moment so_far (Cut on) =
-    chosen tally_of (λ t. t) (on == who) _ _ _ _ (ap (λ n. made false n) (finish-counts so_far.present (record { value = outer h who moment; moment = moment }) true so_far.finished)) refl
+    chosen tallied (λ t. t) (on == who) _ _ _ _ (ap (λ n. made false n) (finish-counts so_far.present (record { value = outer h who moment; moment = moment }) true so_far.finished)) refl
 tally-on h who moment so_far _ = refl
 
 tally-step : (h : History) (who : ℕ) (so_far : Plays) (x : Entry) →
-    tally_of (plays_after h who so_far x) ≡ tally_after (serial_of (time_parent h.nodes who)) who (tally_of so_far) x.step
-unfolding tally_of plays_after
+    tallied (plays_after h who so_far x) ≡ tally_after (serial_of (time_parent h.nodes who)) who (tallied so_far) x.step
+unfolding tallied plays_after
 tally-step h who so_far x =
-    chosen tally_of (λ t. t) (is_birth_under (time_parent h.nodes who) x.step) (record { present = so_far.present; finished = [] }) (play_after h who x.moment so_far x.step)
-    (made (is_some so_far.present) 0) (tally_on who (tally_of so_far) x.step) refl (tally-on h who x.moment so_far x.step)
-    ∙ ap (λ b. if b then made (is_some so_far.present) 0 else tally_on who (tally_of so_far) x.step)
+    chosen tallied (λ t. t) (is_birth_under (time_parent h.nodes who) x.step) (record { present = so_far.present; finished = [] }) (play_after h who x.moment so_far x.step)
+    (made (is_some so_far.present) 0) (tally_on who (tallied so_far) x.step) refl (tally-on h who x.moment so_far x.step)
+    ∙ ap (λ b. if b then made (is_some so_far.present) 0 else tally_on who (tallied so_far) x.step)
     (births-same (time_parent h.nodes who) x.step)
 
 no_plays : Plays
 no_plays = record { present = None; finished = [] }
 
-pub finished-tally : (h : History) (who : ℕ) →
+finished-tally : (h : History) (who : ℕ) →
     length (plays h who).finished
     ≡ (fold (λ t (x : Entry). tally_after (serial_of (time_parent h.nodes who)) who t x.step) (made false 0) h.diary).finished
-unfolding tally_of plays_after no_plays
+unfolding tallied plays_after no_plays
 finished-tally h who =
     ap (λ (t : Tally). t.finished)
-    (fold-fusion tally_of (plays_after h who)
+    (fold-fusion tallied (plays_after h who)
     (λ t (x : Entry). tally_after (serial_of (time_parent h.nodes who)) who t x.step)
     (tally-step h who) no_plays h.diary)
+
+pub finished-of : (h : History) (who : ℕ) (parent : Option ℕ) (diary : List Entry) → IsOf h diary who parent
+    → (tally_of parent who diary).finished ≡ length (plays h who).finished
+finished-of h who parent diary of =
+    sym
+    (finished-tally h who
+    ∙ ap (λ p. (tally_of p who h.diary).finished) of.parent_is
+    ∙ ap (λ xs. (tally_of parent who xs).finished) of.diary_is)
+
+-- ---- a count, element by element
+
+count-more : {A : Type 0} (test : A → Bool) (n : ℕ) (xs : List A) →
+    fold (λ (a : ℕ) (x : A). a + cond (test x) 1 0) n xs ≡ n + count_by test xs
+count-more test n [] = omega arith
+count-more test n (x ∷ xs) =
+    let here : ℕ = cond (test x) 1 0 in
+    let one = count-more test (n + here) xs in
+    let two = count-more test (0 + here) xs in
+    omega (arith, one, two)
+
+count-cons : {A : Type 0} (test : A → Bool) (x : A) (xs : List A) →
+    count_by test (x ∷ xs) ≡ cond (test x) 1 0 + count_by test xs
+count-cons test x xs =
+    let here : ℕ = cond (test x) 1 0 in
+    let none : 0 + here ≡ here = omega arith in
+    count-more test (0 + here) xs ∙ ap (λ k. k + count_by test xs) none
 
 -- ---- iterations
 
@@ -188,3 +190,14 @@ iteration-last s b diary =
     ap (λ o. unwrap_or o 0) (iterations-begin s None (drop b diary))
     ∙ ap (λ S. unwrap_or (by_begin s None S (drop b diary)) 0) (last-drop (λ (x : Entry). is_step kind.Began s x.step) b diary)
     ∙ dropped s b (last_step diary kind.Began s) diary
+
+-- the repeats since the last begin
+pub repeats-last : (s k : ℕ) (diary : List Entry) → Some k ≡ last_step diary kind.Began s →
+    unwrap_or (iteration_from s diary) 0 ≡ count_by (λ (x : Entry). is_step kind.Repeated s x.step) (drop k diary)
+unfolding by_begin repeats_in
+repeats-last s k diary last =
+    ap (λ o. unwrap_or o 0) (iterations-begin s None diary ∙ ap (λ S. by_begin s None S diary) (sym last))
+
+pub repeats-none : (s : ℕ) (diary : List Entry) → last_step diary kind.Began s ≡ None → iteration_from s diary ≡ None
+unfolding by_begin
+repeats-none s diary none = iterations-begin s None diary ∙ ap (λ S. by_begin s None S diary) none

@@ -2,20 +2,18 @@
 use Rattle.std.proofs.Common.{◌≡◌, ℕ, suc, ◌<◌, ◌≤◌, Bool, true, false, ◌&&◌, List, drop, length, refl, ap, sym, ◌∙◌, arith}
 use Rattle.std.specs.Prelude.{fold, nat_le, if◌then◌else◌, Option, Some, None, is_some, unwrap_or}
 use Rattle.std.specs.List.{count_by}
-use Rattle.std.specs.List.Sorted.{IsNonDecreasing}
 use Rattle.std.specs.Option.{option_map_or}
 use Rattle.smil_model.specs.declared.diary.Entry.{Entry}
 use Rattle.smil_model.specs.declared.diary.StepKind.TheVariants as kind
 use Rattle.smil_model.specs.declared.document.Node.{Node}
 use Rattle.smil_model.specs.document.Document.{time_parent, serial_of}
 use Rattle.smil_model.specs.diary.Diary.{History, last_place, gives_birth, birth_under, lives_under, is_paused, deferral_after, is_deferred, iteration, iteration_from, is_step, last_step}
-use Rattle.smil_diary.specs.Places.{is_decision}
+use Rattle.smil_diary.specs.Places.{is_decision, is_from, is_later}
 use Rattle.smil_diary.specs.Readings.{IsOf}
 use Rattle.smil_diary.specs.ElementPlaces.{element_of, paused_by, birth_by, decision_by, deferred_by}
 use Rattle.smil_diary.proofs.LastPlaces.{birth-last, paused-last, deferral-last, decision-last}
-use Rattle.smil_diary.proofs.ElementIndex.{last-of, playing}
-use Rattle.smil_diary.proofs.PlaceLists.{places-rise, length-places, count-places}
-use Rattle.smil_diary.proofs.EntryCounts.{iteration_at, iteration-last}
+use Rattle.smil_diary.proofs.ElementIndex.{playing}
+use Rattle.smil_diary.proofs.EntryCounts.{iteration_at, iteration-last, repeats-last}
 
 -- the birth, from the place of the parent's last begin or repeat
 pub birth-at : (node : Option Node) (parent : ℕ) (diary : List Entry) (B : Option ℕ)
@@ -30,19 +28,14 @@ birth-at (Some p) parent diary B is same =
 
 pub birth-of : (s : ℕ) (diary : List Entry)
     → birth_by (element_of diary s) ≡ last_place (λ (x : Entry). gives_birth s x.step) diary
-birth-of s diary =
-    let began = last-of diary kind.Began s in
-    let repeated = last-of diary kind.Repeated s in
-    let last = birth-last s diary in
-    cc
+unfolding element_of
+birth-of s diary = sym (birth-last s diary)
 
 pub paused-of : (s : ℕ) (diary : List Entry)
     → paused_by (element_of diary s) ≡ is_paused diary s
+unfolding element_of
 paused-of s diary =
     let active = playing diary s in
-    let paused = last-of diary kind.Paused s in
-    let resumed = last-of diary kind.Resumed s in
-    let began = last-of diary kind.Began s in
     let last = paused-last s diary in
     cc
 
@@ -57,20 +50,14 @@ deferred_since s from diary =
 
 decision-of : (s : ℕ) (diary : List Entry)
     → decision_by (element_of diary s) ≡ last_place (λ (x : Entry). is_decision s x.step) diary
-decision-of s diary =
-    let began = last-of diary kind.Began s in
-    let passed = last-of diary kind.Passed s in
-    let ended = last-of diary kind.Ended s in
-    let cut = last-of diary kind.Cut s in
-    let last = decision-last s diary in
-    cc
+unfolding element_of
+decision-of s diary = sym (decision-last s diary)
 
 deferral-of : (s b : ℕ) (diary : List Entry) → deferred_by b (element_of diary s) ≡ deferred_since s b diary
+unfolding element_of
 deferral-of s b diary =
-    let deferred = last-of diary kind.Deferred s in
-    let decision = decision-of s diary in
-    let last = deferral-last s b diary in
-    cc
+    ap (λ o. is_from b (last_step diary kind.Deferred s) && is_later (last_step diary kind.Deferred s) o) (decision-of s diary)
+    ∙ sym (deferral-last s b diary)
 
 pub deferred-of : (h : History) (who b : ℕ) (parent : Option ℕ) (diary : List Entry) (alive : Bool)
     → IsOf h diary who parent
@@ -118,15 +105,7 @@ iteration-before s b k diary before =
     ap (λ t. if t then count_by (λ (x : Entry). is_step kind.Repeated s x.step) (drop k diary) else 0) (sym test)
 
 -- the repeats that the index keeps
-pub repeats-rise : (s : ℕ) (diary : List Entry) → IsNonDecreasing (element_of diary s).repeated
+pub repeats-of : (s k : ℕ) (diary : List Entry) → Some k ≡ last_step diary kind.Began s
+    → unwrap_or (element_of diary s).repeats 0 ≡ count_by (λ (x : Entry). is_step kind.Repeated s x.step) (drop k diary)
 unfolding element_of
-repeats-rise s diary = places-rise (λ (x : Entry). is_step kind.Repeated s x.step) diary
-
-pub repeats-few : (s : ℕ) (diary : List Entry) → length (element_of diary s).repeated ≤ length diary
-unfolding element_of
-repeats-few s diary = length-places 0 (λ (x : Entry). is_step kind.Repeated s x.step) diary
-
-pub repeats-from : (s k : ℕ) (diary : List Entry)
-    → count_by (nat_le k) (element_of diary s).repeated ≡ count_by (λ (x : Entry). is_step kind.Repeated s x.step) (drop k diary)
-unfolding element_of
-repeats-from s k diary = count-places k (λ (x : Entry). is_step kind.Repeated s x.step) diary
+repeats-of s k diary last = repeats-last s k diary last

@@ -1,17 +1,15 @@
 -- The rows of an index: what is kept of a serial with a row, and what a change of one leaves.
-use Rattle.std.proofs.Common.{◌≡◌, ◌∙◌, refl, ap, sym, ℕ, zero, suc, ◌+◌, ◌<◌, Bool, true, false, cond, List, [], ◌∷◌, ◌++◌, Option, Some, None, length, get_or, set, arith}
+use Rattle.std.proofs.Common.{◌≡◌, ◌∙◌, refl, ap, sym, ℕ, zero, suc, ◌+◌, Bool, true, false, cond, List, [], ◌∷◌, ◌++◌, Option, Some, None, length, get_or, set, map, arith}
 use Rattle.std.specs.Prelude.{◌==◌, nat_eq, option_map, unwrap_or}
-use Rattle.std.specs.List.{position}
 use Rattle.std.specs.Map.{lookup}
 use Rattle.std.specs.Option.{option_or}
 use Rattle.std.proofs.lemmas.Bool.{eq-eqb, eqb-true}
 use Rattle.std.proofs.lemmas.Bool.Decides.{nat_tests}
 use Rattle.std.proofs.lemmas.List.Quantifiers.{position-Some}
-use Rattle.smil_model.specs.declared.diary.StepKind.{StepKind}
-use Rattle.smil_model.specs.declared.diary.StepKind.TheVariants as kind
 use Rattle.smil_model.proofs.FirstPlaces.{position_cons, position_push}
 use Rattle.smil_diary.specs.declared.element.ElementPlaces.{ElementPlaces}
-use Rattle.smil_diary.specs.ElementPlaces.{forgotten, kept, nothing, row_of}
+use Rattle.smil_diary.specs.declared.element.TheConstants.{NOTHING}
+use Rattle.smil_diary.specs.ElementPlaces.{cleared, kept, row_of}
 
 some_same : (a b : ℕ) → Some a ≡ Some b → a ≡ b
 some_same a b is = ap (λ o. unwrap_or o a) is
@@ -26,9 +24,9 @@ turned : (a b : ℕ) → nat_eq a b ≡ (b == a)
 turned a b = grind (arith, nat_tests)
 
 kept_cons : (e : ℕ × ElementPlaces) (es : List (ℕ × ElementPlaces)) (s : ℕ) → kept (e ∷ es) s ≡ cond (e.0 == s) e.1 (kept es s)
-kept_cons e es s = ap (λ t. unwrap_or (cond t (Some e.1) (lookup (nat_eq s) es)) nothing) (turned s e.0) ∙ by (e.0 == s)
+kept_cons e es s = ap (λ t. unwrap_or (cond t (Some e.1) (lookup (nat_eq s) es)) NOTHING) (turned s e.0) ∙ by (e.0 == s)
   where
-    by : (t : Bool) → unwrap_or (cond t (Some e.1) (lookup (nat_eq s) es)) nothing ≡ cond t e.1 (kept es s)
+    by : (t : Bool) → unwrap_or (cond t (Some e.1) (lookup (nat_eq s) es)) NOTHING ≡ cond t e.1 (kept es s)
     by true = refl
     by false = refl
 
@@ -37,7 +35,7 @@ row_cons e es s = position_cons (λ (e : ℕ × ElementPlaces). e.0 == s) e es
 
 -- what is kept at a row, and where there is none
 told : (ℕ × ElementPlaces) → List (ℕ × ElementPlaces) → Option ℕ → ElementPlaces
-told d es None = nothing
+told d es None = NOTHING
 told d es (Some row) = (get_or es row d).1
 
 told_next : (d e : ℕ × ElementPlaces) (es : List (ℕ × ElementPlaces)) (t : Bool) (o : Option ℕ) → cond t e.1 (told d es o) ≡ told d (e ∷ es) (cond t (Some 0) (option_map suc o))
@@ -56,24 +54,24 @@ pub kept_at : (es : List (ℕ × ElementPlaces)) (s row : ℕ) (d : ℕ × Eleme
 unfolding told
 kept_at es s row d is = kept_told d es s ∙ ap (told d es) is
 
-pub kept_none : (es : List (ℕ × ElementPlaces)) (s : ℕ) → row_of es s ≡ None → kept es s ≡ nothing
+pub kept_none : (es : List (ℕ × ElementPlaces)) (s : ℕ) → row_of es s ≡ None → kept es s ≡ NOTHING
 unfolding told
-kept_none es s is = kept_told (0, nothing) es s ∙ ap (told (0, nothing) es) is
+kept_none es s is = kept_told (0, NOTHING) es s ∙ ap (told (0, NOTHING) es) is
 
 -- a row with nothing changes what is kept of no serial
-pub kept_pushed : (es : List (ℕ × ElementPlaces)) (who s : ℕ) → kept (es ++ (who, nothing) ∷ []) s ≡ kept es s
-kept_pushed [] who s = kept_cons (who, nothing) [] s ∙ by (who == s)
+pub kept_pushed : (es : List (ℕ × ElementPlaces)) (who s : ℕ) → kept (es ++ (who, NOTHING) ∷ []) s ≡ kept es s
+kept_pushed [] who s = kept_cons (who, NOTHING) [] s ∙ by (who == s)
   where
-    by : (t : Bool) → cond t nothing nothing ≡ nothing
+    by : (t : Bool) → cond t NOTHING NOTHING ≡ NOTHING
     by true = refl
     by false = refl
 kept_pushed (e ∷ es) who s =
-    kept_cons e (es ++ (who, nothing) ∷ []) s ∙ ap (cond (e.0 == s) e.1) (kept_pushed es who s) ∙ sym (kept_cons e es s)
+    kept_cons e (es ++ (who, NOTHING) ∷ []) s ∙ ap (cond (e.0 == s) e.1) (kept_pushed es who s) ∙ sym (kept_cons e es s)
 
 -- the rows with one for a serial that had none
-pub row_pushed : (es : List (ℕ × ElementPlaces)) (who s : ℕ) → row_of es who ≡ None → cond (who == s) (Some (length es)) (row_of es s) ≡ row_of (es ++ (who, nothing) ∷ []) s
+pub row_pushed : (es : List (ℕ × ElementPlaces)) (who s : ℕ) → row_of es who ≡ None → cond (who == s) (Some (length es)) (row_of es s) ≡ row_of (es ++ (who, NOTHING) ∷ []) s
 row_pushed es who s none =
-    by (who == s) refl (row_of es s) refl ∙ sym (position_push (λ (e : ℕ × ElementPlaces). e.0 == s) es (who, nothing))
+    by (who == s) refl (row_of es s) refl ∙ sym (position_push (λ (e : ℕ × ElementPlaces). e.0 == s) es (who, NOTHING))
   where
     by : (t : Bool) → (who == s) ≡ t → (o : Option ℕ) → row_of es s ≡ o → cond t (Some (length es)) o ≡ option_or o (cond t (Some (length es)) None)
     by true same None is = refl
@@ -84,11 +82,11 @@ row_pushed es who s none =
     by false same (Some row) is = refl
 
 -- a row keeps its serial under a change of what it has
-pub row_set : (es : List (ℕ × ElementPlaces)) (at : ℕ) (x : ElementPlaces) (s : ℕ) → row_of (set es at ((get_or es at (0, nothing)).0, x)) s ≡ row_of es s
-row_set [] at x s = refl
-row_set (e ∷ es) zero x s = row_cons (e.0, x) es s ∙ sym (row_cons e es s)
-row_set (e ∷ es) (suc at) x s =
-    row_cons e (set es at ((get_or es at (0, nothing)).0, x)) s ∙ ap (λ o. cond (e.0 == s) (Some 0) (option_map suc o)) (row_set es at x s) ∙ sym (row_cons e es s)
+pub row_set : (es : List (ℕ × ElementPlaces)) (at : ℕ) (d : ℕ × ElementPlaces) (x : ElementPlaces) (s : ℕ) → row_of (set es at ((get_or es at d).0, x)) s ≡ row_of es s
+row_set [] at d x s = refl
+row_set (e ∷ es) zero d x s = row_cons (e.0, x) es s ∙ sym (row_cons e es s)
+row_set (e ∷ es) (suc at) d x s =
+    row_cons e (set es at ((get_or es at d).0, x)) s ∙ ap (λ o. cond (e.0 == s) (Some 0) (option_map suc o)) (row_set es at d x s) ∙ sym (row_cons e es s)
 
 -- what is kept of each serial after a change of one
 pub kept_set : (es : List (ℕ × ElementPlaces)) (at who : ℕ) (x : ElementPlaces) (s : ℕ) → row_of es who ≡ Some at → kept (set es at (who, x)) s ≡ cond (who == s) x (kept es s)
@@ -121,32 +119,28 @@ kept_set (e ∷ es) at who x s is = by (e.0 == who) refl (row_of es who) refl at
         ∙ ap (cond (who == s) x) (sym (kept_cons e es s))
 
 -- a row that is changed by its serial alone
-pub kept_changed : (es : List (ℕ × ElementPlaces)) (who row : ℕ) (e : ℕ × ElementPlaces) (x : ElementPlaces) (f : ElementPlaces → ElementPlaces) → row_of es who ≡ Some row → e ≡ get_or es row e → x ≡ f e.1 → (s : ℕ) → kept (set es row (e.0, x)) s ≡ cond (who == s) (f (kept es s)) (kept es s)
-kept_changed es who row e x f is at now s =
+pub kept_changed : (es : List (ℕ × ElementPlaces)) (who row : ℕ) (d e : ℕ × ElementPlaces) (x : ElementPlaces) (f : ElementPlaces → ElementPlaces) → row_of es who ≡ Some row → e ≡ get_or es row d → x ≡ f e.1 → (s : ℕ) → kept (set es row (e.0, x)) s ≡ cond (who == s) (f (kept es s)) (kept es s)
+kept_changed es who row d e x f is at now s =
     ap (λ n. kept (set es row (n, x)) s) own ∙ kept_set es row who x s is ∙ by (who == s) refl
   where
     own : e.0 ≡ who
-    own = eqb-true e.0 who (ap (λ (r : ℕ × ElementPlaces). r.0 == who) at ∙ (position-Some (λ (r : ℕ × ElementPlaces). r.0 == who) es row e is).1)
+    own = eqb-true e.0 who (ap (λ (r : ℕ × ElementPlaces). r.0 == who) at ∙ (position-Some (λ (r : ℕ × ElementPlaces). r.0 == who) es row d is).1)
 
     by : (t : Bool) → (who == s) ≡ t → cond t x (kept es s) ≡ cond t (f (kept es s)) (kept es s)
-    by true same = now ∙ ap f (ap (λ (r : ℕ × ElementPlaces). r.1) at ∙ sym (kept_at es who row e is) ∙ ap (kept es) (eqb-true who s same))
+    by true same = now ∙ ap f (ap (λ (r : ℕ × ElementPlaces). r.1) at ∙ sym (kept_at es who row d is) ∙ ap (kept es) (eqb-true who s same))
     by false same = refl
 
-nothing_forgotten : (k : StepKind) → forgotten k nothing ≡ nothing
-nothing_forgotten kind.Began = refl
-nothing_forgotten kind.Repeated = refl
-nothing_forgotten kind.Ended = refl
-nothing_forgotten kind.Cut = refl
-nothing_forgotten kind.Paused = refl
-nothing_forgotten kind.Resumed = refl
-nothing_forgotten kind.Deferred = refl
-nothing_forgotten kind.Passed = refl
+-- ---- rows that are cleared
 
-pub none_forgotten : (es : List (ℕ × ElementPlaces)) (who : ℕ) (k : StepKind) → row_of es who ≡ None → (s : ℕ) → kept es s ≡ cond (who == s) (forgotten k (kept es s)) (kept es s)
-none_forgotten es who k none s = by (who == s) refl
+pub kept_cleared : (es : List (ℕ × ElementPlaces)) (s : ℕ) → kept (map cleared es) s ≡ NOTHING
+kept_cleared [] s = refl
+kept_cleared (e ∷ es) s = kept_cons (cleared e) (map cleared es) s ∙ ap (cond (e.0 == s) NOTHING) (kept_cleared es s) ∙ by (e.0 == s)
   where
-    by : (t : Bool) → (who == s) ≡ t → kept es s ≡ cond t (forgotten k (kept es s)) (kept es s)
-    by true same =
-        let empty : kept es s ≡ nothing = ap (kept es) (sym (eqb-true who s same)) ∙ kept_none es who none in
-        empty ∙ sym (nothing_forgotten k) ∙ ap (forgotten k) (sym empty)
-    by false same = refl
+    by : (t : Bool) → cond t NOTHING NOTHING ≡ NOTHING
+    by true = refl
+    by false = refl
+
+pub row_cleared : (es : List (ℕ × ElementPlaces)) (s : ℕ) → row_of (map cleared es) s ≡ row_of es s
+row_cleared [] s = refl
+row_cleared (e ∷ es) s =
+    row_cons (cleared e) (map cleared es) s ∙ ap (λ o. cond (e.0 == s) (Some 0) (option_map suc o)) (row_cleared es s) ∙ sym (row_cons e es s)

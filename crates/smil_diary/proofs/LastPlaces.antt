@@ -1,6 +1,6 @@
 -- What the last places of two tests say of a fold that one sets and the other clears.
-use Rattle.std.proofs.Common.{◌≡◌, ℕ, zero, suc, ◌-◌, Bool, true, false, ◌&&◌, ◌||◌, List, [], ◌∷◌, drop, refl, ap, ◌∙◌, arith}
-use Rattle.std.specs.Prelude.{fold, nat_lt, nat_le, if◌then◌else◌, Option, Some, None, is_some}
+use Rattle.std.proofs.Common.{◌≡◌, ℕ, zero, suc, ◌-◌, Bool, true, false, ◌&&◌, ◌||◌, List, [], ◌∷◌, ◌++◌, drop, length, refl, ap, ◌∙◌, ◌<◌, arith}
+use Rattle.std.specs.Prelude.{fold, nat_lt, nat_le, if◌then◌else◌, Option, Some, None, is_some, IfSome}
 use Rattle.smil_model.specs.declared.diary.Entry.{Entry}
 use Rattle.smil_model.specs.declared.diary.Step.{Step}
 use Rattle.smil_model.specs.declared.diary.Step.TheVariants.{Began, Ended, Resumed}
@@ -185,3 +185,34 @@ decision-last s diary =
     (λ (x : Entry). is_step kind.Began s x.step || is_step kind.Passed s x.step) (λ x. refl) diary)
     ∙ ap (λ o. later_of (later_of (last_step diary kind.Began s) (last_step diary kind.Passed s)) o)
     (finish-last s diary)
+
+-- ---- one more entry, and the bound of a last place
+
+abbrev pub found : Bool → ℕ → Option ℕ → Option ℕ
+found true place before = Some place
+found false place before = before
+
+found-next : (t b : Bool) (i : ℕ) (o : Option ℕ) → later_place t (found b i o) ≡ found b (suc i) (later_place t o)
+found-next true true i o = refl
+found-next false true i o = refl
+found-next t false i o = refl
+
+found-first : (b : Bool) → later_place b None ≡ found b 0 None
+found-first true = refl
+found-first false = refl
+
+pub last-push : {A : Type 0} (test : A → Bool) (xs : List A) (x : A) →
+    last_place test (xs ++ x ∷ []) ≡ found (test x) (length xs) (last_place test xs)
+last-push test [] x = found-first (test x)
+last-push test (y ∷ ys) x =
+    ap (λ o. later_place (test y) o) (last-push test ys x)
+    ∙ found-next (test y) (test x) (length ys) (last_place test ys)
+
+within-later : (t : Bool) (o : Option ℕ) (n : ℕ) → IfSome o (λ k. k < n) → IfSome (later_place t o) (λ k. k < suc n)
+within-later true None n none = omega arith
+within-later false None n none = tt
+within-later t (Some k) n below = omega arith
+
+pub last-within : {A : Type 0} (test : A → Bool) (xs : List A) → IfSome (last_place test xs) (λ k. k < length xs)
+last-within test [] = tt
+last-within test (x ∷ xs) = within-later (test x) (last_place test xs) (length xs) (last-within test xs)

@@ -1,9 +1,8 @@
 pub mod TestChoices
-pub mod RisingPlaces
 pub mod PlaceLists
 pub mod LastPlaces
 pub mod ElementIndex
 pub mod EntryCounts
 pub mod HistoryReadings
-pub mod FinishedIntervals
 pub mod IndexRows
+pub mod IndexNoted

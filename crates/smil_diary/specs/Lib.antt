@@ -2,3 +2,4 @@ pub mod Readings
 pub mod Places
 pub mod ElementPlaces
 pub mod Refusals
+pub mod Tallies

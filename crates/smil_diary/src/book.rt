@@ -1,13 +1,13 @@
 //! The diary, and its readings.
 
-ghost use Rattle.std.specs.Prelude.{◌≡◌, ℕ, ◌≤◌, ◌-◌, ◌↔◌, List, [], ◌∷◌, ◌++◌, length, take, Result, Err, OnOk, OnErr, IfOk, IfSome, ◌<◌, slice_get, Option};
+ghost use Rattle.std.specs.Prelude.{◌≡◌, ◌≤◌, ◌-◌, ◌↔◌, List, [], ◌∷◌, ◌++◌, length, take, Result, Err, OnOk, OnErr, IfSome, ◌<◌, slice_get, Option};
 ghost use Rattle.std.specs.List.{position};
 ghost use Rattle.smil_model.specs.declared.limits.TheConstants as limits;
 ghost use Rattle.smil_model.specs.declared.document.Node.{Node};
-ghost use Rattle.smil_model.specs.diary.Diary.{History, last_place, gives_birth, birth_under, lives_under, is_active, is_paused, is_deferred, is_step, iteration, last_step};
+ghost use Rattle.smil_model.specs.diary.Diary.{History, last_place, gives_birth, birth_under, lives_under, is_active, is_paused, is_deferred, is_step as is_step_of, iteration, last_step};
 ghost use Rattle.smil_model.specs.diary.Plays.{plays};
 ghost use Rattle.smil_model.specs.declared.diary.Entry.{Entry as GivenEntry};
-ghost use Rattle.smil_diary.specs.Readings.{IsOf, births_end};
+ghost use Rattle.smil_diary.specs.Readings.{IsOf};
 ghost use Rattle.smil_model.specs.document.Document.{serial_of};
 ghost use Rattle.smil_diary.specs.ElementPlaces.{element_of};
 ghost use Rattle.smil_diary.specs.declared.fault.BookFault.TheVariants as book_fault;
@@ -15,13 +15,15 @@ ghost use Rattle.smil_diary.specs.declared.fault.BookFault.TheVariants as book_f
 use super::element::ElementPlaces;
 use super::fault::BookFault;
 use super::index::Index;
-use super::subject::subject;
+use super::subject::{is_step, subject};
+use super::tally::Tally;
 use smil_model::{DIARY_ENTRIES, Duplicate, Entry, StepKind};
 use std::alloc::{AllocError, Global};
 use std::marker::Model;
 
 /// What happened so far, in order: a diary of at most `DIARY_ENTRIES` entries, seen as the list of
-/// its entries. An index by element stands beside it, so that no reading goes through the entries.
+/// its entries. An index of the last entries on each element stands beside it, so that no reading
+/// but `first` and `finished` goes through the entries.
 pub struct Book {
     entries: Vec<Entry>,
     index: Index,
@@ -84,14 +86,15 @@ impl Book {
         Ok(())
     }
 
-    /// Leaves the first `len` entries, of which there are as many at least. It takes no memory, and
-    /// a fixed number of steps for each entry that goes.
+    /// Leaves the first `len` entries, of which there are as many at least. It takes no memory;
+    /// where entries go, a step for each that stays and for each element that any is on.
     pub fn cut_back(&mut self, len: usize)
         requires { len ≤ length self.old }
         ensures { self.new ≡ take len self.old }
     {
-        for _ in len..self.len() {
-            self.drop_last();
+        if len < self.len() {
+            self.entries.truncate(len);
+            self.index.begin_anew(&self.entries);
         }
     }
 
@@ -164,22 +167,26 @@ impl Book {
     {
         let element = self.element(who);
         match element.last(StepKind::Began) {
-            Some(began) if self.birth(parent) <= began => element.repeats_from(began),
+            Some(began) if self.birth(parent) <= began => element.repeats.unwrap_or(0),
             _ => 0,
         }
     }
 
     /// How many intervals of the element, whose time parent is `parent`, finished since its birth.
-    /// It takes no memory.
+    /// It takes no memory, and a step for each entry.
     pub fn finished(&self, who: u32, parent: Option<u32>) -> u32
         ensures { (h : History) → IsOf h self.now who parent
             → result ≡ length (plays h who).finished }
     {
-        // Under itself an element never plays: each begin of it would be a birth.
-        if parent == Some(who) {
-            return 0;
+        prove!(self.len() <= DIARY_ENTRIES);
+        let mut tally = Tally {
+            playing: false,
+            finished: 0,
+        };
+        for entry in self.entries() {
+            tally = tally.after(parent, who, entry.step);
         }
-        self.element(who).finished_from(self.births_end(parent))
+        tally.finished
     }
 
     /// The place of the last entry of this kind on the element; None where there is none. It takes
@@ -192,17 +199,19 @@ impl Book {
     }
 
     /// The place of the first entry of this kind on the element; None where there is none. It takes
-    /// no memory.
+    /// no memory, and a step for each entry up to that one.
     pub fn first(&self, who: u32, kind: StepKind) -> Option<usize>
-        ensures value { result ≡ position (λ (x : GivenEntry). is_step kind who x.step) self.now }
+        ensures value { result ≡ position (λ (x : GivenEntry). is_step_of kind who x.step) self.now }
         ensures within { IfSome result (λ place. place < length self.now) }
     {
-        self.element(who).first(kind)
+        self.entries()
+            .iter()
+            .position(|entry| is_step(kind, who, entry.step))
     }
 
     // What the index has of an element.
-    fn element(&self, who: u32) -> &ElementPlaces
-        ensures places { result.now ≡ element_of self.now who }
+    fn element(&self, who: u32) -> ElementPlaces
+        ensures places { result ≡ element_of self.now who }
         ensures few { length self.now ≤ limits.DIARY_ENTRIES }
     {
         self.index.element(who)
@@ -228,20 +237,6 @@ impl Book {
         self.element(who).last_birth()
     }
 
-    // How many entries there are up to and with the last begin or repeat of a time parent; 0 where
-    // there is none.
-    fn births_end(&self, parent: Option<u32>) -> usize
-        ensures { result ≡ births_end parent self.now }
-    {
-        let Some(parent) = parent else {
-            return 0;
-        };
-        match self.last_birth(parent) {
-            Some(place) => place + 1,
-            None => 0,
-        }
-    }
-
     // Appends an entry where there is room for one. Where memory runs out the diary is as before.
     fn append(&mut self, entry: Entry) -> Result<(), AllocError>
         requires { length self.old < limits.DIARY_ENTRIES }
@@ -259,17 +254,5 @@ impl Book {
             self.entries.pop();
         }
         noted
-    }
-
-    // Takes away the last entry, where there is one.
-    fn drop_last(&mut self)
-        ensures { self.new ≡ take (length self.old - 1) self.old }
-    {
-        let Some(entry) = self.entries.pop() else {
-            return;
-        };
-        if let Some((who, kind)) = subject(&entry.step) {
-            self.index.forget(who, kind);
-        }
     }
 }

@@ -7,6 +7,7 @@ pub mod fault;
 mod index;
 mod places;
 mod subject;
+mod tally;
 
 pub use book::Book;
 pub use fault::BookFault;

@@ -1,7 +1,8 @@
-//! Which element a step is on.
+//! Which element a step is on, and of which kind it is.
 
 ghost use Rattle.std.specs.Prelude.{◌≡◌};
-ghost use Rattle.smil_diary.specs.ElementPlaces.{subject, ends};
+ghost use Rattle.smil_model.specs.diary.Diary.{is_step};
+ghost use Rattle.smil_diary.specs.ElementPlaces.{subject};
 
 use smil_model::{Step, StepKind};
 
@@ -22,9 +23,19 @@ pub(crate) fn subject(step: &Step) -> Option<(u32, StepKind)>
     }
 }
 
-/// Whether a step of this kind ends a play.
-pub(crate) fn ends(kind: StepKind) -> bool
-    ensures { result ≡ ends kind }
+/// Whether a step is of this kind, and on this element.
+pub(crate) fn is_step(kind: StepKind, who: u32, step: Step) -> bool
+    ensures { result ≡ is_step kind who step }
 {
-    matches!(kind, StepKind::Ended | StepKind::Cut)
+    match (kind, step) {
+        (StepKind::Began, Step::Began { who: on, .. }) => on == who,
+        (StepKind::Repeated, Step::Repeated { who: on, .. }) => on == who,
+        (StepKind::Ended, Step::Ended { who: on, .. }) => on == who,
+        (StepKind::Cut, Step::Cut { who: on }) => on == who,
+        (StepKind::Paused, Step::Paused { who: on }) => on == who,
+        (StepKind::Resumed, Step::Resumed { who: on }) => on == who,
+        (StepKind::Deferred, Step::Deferred { who: on, .. }) => on == who,
+        (StepKind::Passed, Step::Passed { who: on, .. }) => on == who,
+        _ => false,
+    }
 }

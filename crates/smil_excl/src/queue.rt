@@ -27,7 +27,11 @@ impl Model for Queue {
 
 impl Duplicate for Queue {
     fn copy(&self) -> Result<Self, AllocError> {
-        let mut held = Vec::with_capacity(*self.held.allocator(), self.room)?;
+        let alloc = *self.held.allocator();
+        if self.room == 0 {
+            return Queue::new(alloc, 0);
+        }
+        let mut held = Vec::with_capacity(alloc, self.room)?;
         held.extend_from_slice(self.held.as_slice())?;
         Ok(Queue {
             held,

@@ -106,7 +106,7 @@ impl Syncs {
             → option_copied result ≡ Some (makeup_of nodes e) }
     {
         match self.row(who) {
-            Some(row) => Some(&row.makeup),
+            Some(row) => Some(row.makeup()),
             None => None,
         }
     }
@@ -165,10 +165,8 @@ fn row_of(reader: &Reader, tree: &Tree, place: usize, who: u32) -> Result<Syncba
         → node_at tree.now.nodes who ≡ Some e → row ≡ sync_row tree.now.nodes e) }
 {
     let attrs = tree.attrs(who);
-    Ok(SyncbaseRow {
-        serial: who,
-        begins: reader.begin_syncs(place, who, &attrs.begin)?,
-        ends: reader.end_syncs(place, who, &attrs.end)?,
-        makeup: makeup_of(tree, who),
-    })
+    let begins = reader.begin_syncs(place, who, &attrs.begin)?;
+    let ends = reader.end_syncs(place, who, &attrs.end)?;
+    let makeup = makeup_of(tree, who);
+    SyncbaseRow::new(who, begins, ends.as_slice(), makeup)
 }

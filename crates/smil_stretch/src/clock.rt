@@ -21,10 +21,10 @@ pub enum Clock {
 pub struct NodeClock {
     /// The serial of the node.
     pub serial: u32,
-    /// The place of its time parent in document order, from 0.
-    pub parent: Option<usize>,
     /// Whether the node is an element that is itself paused.
     pub paused: bool,
+    /// The place of its time parent in document order, from 0.
+    pub parent: Option<u32>,
     /// Its clock, which stands while it or an element above it is paused.
     pub clock: Clock,
 }
@@ -34,6 +34,18 @@ impl HasSerial for NodeClock {
 
     fn serial(&self) -> u32 {
         self.serial
+    }
+}
+
+impl NodeClock {
+    /// The place of the time parent of the node.
+    pub(crate) fn parent_place(self) -> Option<usize>
+        ensures { result ≡ self.parent }
+    {
+        match self.parent {
+            Some(place) => Some(place as usize),
+            None => None,
+        }
     }
 }
 

@@ -1,6 +1,8 @@
 //! The clocks of a document.
 
-ghost use Rattle.std.specs.Prelude.{◌≡◌, [], ◌≤ℤ◌, ◌||◌, if◌then◌else◌, true, Some, None, IfOk, IfSome, map};
+ghost use Rattle.std.specs.Prelude.{◌≡◌, [], ◌≤ℤ◌, ◌||◌, if◌then◌else◌, true, Some, None, IfOk, IfSome, IsSome, map};
+ghost use Rattle.smil_model.specs.document.Document.{node_at};
+ghost use Rattle.smil_tree.specs.Outline.{parent_place};
 ghost use Rattle.smil_model.specs.document.Valid.{IsNumberedTree};
 ghost use Rattle.smil_model.specs.diary.Diary.{History, is_paused as paused_in, up_to, with_entry, last_moment};
 ghost use Rattle.smil_model.specs.diary.Lawful.{IsLawful, has_element};
@@ -242,7 +244,7 @@ impl Clocks {
         ensures value { result ≡ parent_at self.now who }
         ensures fits { IfSome result (λ n. Fits n.clock) }
     {
-        let place = self.clock(who)?.parent?;
+        let place = self.clock(who)?.parent_place()?;
         self.clocks.get(place).copied()
     }
 
@@ -279,6 +281,18 @@ fn reset_each(clocks: &mut [NodeClock])
     }
 }
 
+// The place of the time parent of a node.
+fn parent_of(tree: &Tree, serial: u32) -> Option<u32>
+    requires { IsSome (node_at tree.now.nodes serial) }
+    ensures { result ≡ parent_place tree.now.nodes serial }
+{
+    tree.valid();
+    match tree.parent_place(serial) {
+        Some(place) => Some(place as u32),
+        None => None,
+    }
+}
+
 // The clocks of the nodes of a document to which nothing has happened yet: all run, and lost
 // nothing.
 fn idle_clocks(alloc: Global, tree: &Tree) -> Result<Vec<NodeClock>, AllocError>
@@ -290,8 +304,8 @@ fn idle_clocks(alloc: Global, tree: &Tree) -> Result<Vec<NodeClock>, AllocError>
     for node in tree.nodes() {
         clocks.push(NodeClock {
             serial: node.serial,
-            parent: tree.parent_place(node.serial),
             paused: false,
+            parent: parent_of(tree, node.serial),
             clock: Clock::Runs { lost: 0 },
         })?;
     }

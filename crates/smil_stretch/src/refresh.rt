@@ -18,7 +18,7 @@ pub(crate) fn refresh(clocks: &mut [NodeClock], first: usize, moment: i64)
 {
     for place in first..clocks.len() {
         let node = clocks[place];
-        if first < place && is_outside(first, node.parent) {
+        if first < place && is_outside(first, node.parent_place()) {
             return;
         }
         let stands = is_held(clocks, node);
@@ -40,7 +40,7 @@ fn is_outside(first: usize, parent: Option<usize>) -> bool
 fn is_held(clocks: &[NodeClock], node: NodeClock) -> bool
     ensures { result ≡ (node.paused || stands_by (at_place clocks.now node.parent)) }
 {
-    node.paused || stands_at(clocks, node.parent)
+    node.paused || stands_at(clocks, node.parent_place())
 }
 
 // Whether the clock of a time parent stands; where there is none, it is document time, which runs.

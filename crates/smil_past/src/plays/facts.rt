@@ -13,13 +13,20 @@ pub struct PastInterval {
     pub was_cut: bool,
 }
 
-/// What a diary says of the plays of an element, in milliseconds.
+/// What a diary says of the plays of an element, in milliseconds. What each evaluation reads of it
+/// stands first, close together.
 #[derive(Clone, Copy)]
 pub struct PlayFacts {
-    /// The begin of the present play on the time parent's clock, and in document time; None where
-    /// there is none.
+    /// The begin of the present play on the time parent's clock; None where there is none.
     pub begun: Option<i64>,
-    pub shown_begun: Option<i64>,
+    /// The begin that an excl has deferred, in document time.
+    pub shown_deferred: Option<i64>,
+    /// The greatest begin since birth that an excl passed over, on the time parent's clock.
+    pub passed: Option<i64>,
+    /// The last interval that finished since birth.
+    pub last_finished: Option<PastInterval>,
+    /// The first interval that finished since birth.
+    pub first_finished: Option<PastInterval>,
     /// The play start of the last play and the start of its last iteration, on the element's own
     /// clock.
     pub first: i64,
@@ -32,14 +39,8 @@ pub struct PlayFacts {
     pub paused: bool,
     /// Whether the element began since birth.
     pub began_since_birth: bool,
-    /// The last interval that finished since birth.
-    pub last_finished: Option<PastInterval>,
-    /// The begin that an excl has deferred, in document time.
-    pub shown_deferred: Option<i64>,
-    /// The greatest begin since birth that an excl passed over, on the time parent's clock.
-    pub passed: Option<i64>,
     /// The last length of the element's media that the diary tells.
     pub length: Time,
-    /// The first interval that finished since birth.
-    pub first_finished: Option<PastInterval>,
+    /// The begin of the present play in document time; None where there is none.
+    pub shown_begun: Option<i64>,
 }

@@ -81,9 +81,9 @@ fn began(own: &OwnEntry<'_>, begin: i64, row: &mut PlayFacts)
         clocks,
         ..
     } = *own;
-    let start = start_of(clocks, who, begin, entry.moment);
+    let (start, shown) = carried_begin(clocks, who, begin, entry.moment);
     row.begun = Some(begin);
-    row.shown_begun = Some(clocks.to_document(who, begin, entry.moment));
+    row.shown_begun = Some(shown);
     row.first = start;
     row.start = start;
     row.shown_deferred = None;
@@ -92,14 +92,18 @@ fn began(own: &OwnEntry<'_>, begin: i64, row: &mut PlayFacts)
     row.began_since_birth = true;
 }
 
-// The play start of a begin, on the element's own clock.
-fn start_of(clocks: &Clocks, who: u32, begin: i64, moment: i64) -> i64
+// The play start of a begin, on the element's own clock, and the begin in document time.
+fn carried_begin(clocks: &Clocks, who: u32, begin: i64, moment: i64) -> (i64, i64)
     requires moment { IsMoment moment }
     requires near { IsNear begin }
-    ensures { (h : History) → AreClocksAt h clocks.now moment
-        → result ≡ start_of h who moment begin }
+    ensures start { (h : History) → AreClocksAt h clocks.now moment
+        → result.0 ≡ start_of h who moment begin }
+    ensures shown { (h : History) → AreClocksAt h clocks.now moment
+        → result.1 ≡ document_time h who begin moment }
 {
-    clocks.run(who, moment) + (begin - clocks.outer(who, moment))
+    let readings = clocks.readings(who, moment);
+    let since = begin - readings.outer;
+    (readings.own + since, moment + since)
 }
 
 // What a finish with a value makes of a row.

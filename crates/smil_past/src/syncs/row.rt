@@ -1,38 +1,72 @@
 //! What evaluation reads of the document for one element.
 
-ghost use Rattle.std.specs.Prelude.{◌≡◌};
+ghost use Rattle.std.specs.Prelude.{◌≡◌, IfOk};
 ghost use Rattle.smil_past.specs.Syncs.{syncs_on};
 
 use crate::makeup::Makeup;
 use smallvec::SmallVec;
 use smil_instances::Syncbase;
 use smil_model::Edge;
+use std::alloc::AllocError;
 use std::marker::Model;
 
 /// What the begin and the end items of an element wait for, in their order, and what its
 /// attributes tell.
 #[derive(Drop)]
 pub struct SyncbaseRow {
-    pub(crate) serial: u32,
-    pub(crate) begins: SmallVec<Syncbase, 1>,
-    pub(crate) ends: SmallVec<Syncbase, 1>,
-    pub(crate) makeup: Makeup,
+    serial: u32,
+    /// How many of `syncs` the begin items wait for.
+    begins: u32,
+    /// What the begin items wait for, and then what the end items wait for.
+    syncs: SmallVec<Syncbase, 1>,
+    makeup: Makeup,
 }
 
 impl Model for SyncbaseRow {
+    ghost use Rattle.std.specs.Prelude.{◌≤◌, length, take, drop};
     ghost use Rattle.smil_past.specs.Syncs.{SyncRow};
 
     ghost Value = { SyncRow };
 
     ghost view = { λ a. record {
       serial = a.serial;
-      begins = a.begins.items;
-      ends = a.ends.items;
+      begins = take a.begins a.syncs.items;
+      ends = drop a.begins a.syncs.items;
       makeup = a.makeup;
     } };
+
+    ghost invariant = { λ a. a.begins ≤ length a.syncs.items };
 }
 
 impl SyncbaseRow {
+    /// The row of an element, of what its begin and its end items wait for. Refused as where memory
+    /// runs out also where there are 2^32 begin items or more.
+    pub(crate) fn new(
+        serial: u32,
+        begins: SmallVec<Syncbase, 1>,
+        ends: &[Syncbase],
+        makeup: Makeup,
+    ) -> Result<SyncbaseRow, AllocError>
+        ensures { IfOk result (λ row. row ≡ record {
+          serial = serial;
+          begins = begins.items;
+          ends = ends.now;
+          makeup = makeup;
+        }) }
+    {
+        let Ok(count) = u32::try_from(begins.len()) else {
+            return Err(AllocError);
+        };
+        let mut syncs = begins;
+        syncs.extend_from_slice(ends)?;
+        Ok(SyncbaseRow {
+            serial,
+            begins: count,
+            syncs,
+            makeup,
+        })
+    }
+
     /// What the attributes tell. It takes no memory.
     pub fn makeup(&self) -> &Makeup
         ensures { result.now ≡ self.now.makeup }
@@ -44,9 +78,11 @@ impl SyncbaseRow {
     pub fn side(&self, side: Edge) -> &[Syncbase]
         ensures { result.now ≡ syncs_on side self.now }
     {
+        let syncs = self.syncs.as_slice();
+        let begins = self.begins as usize;
         match side {
-            Edge::Begin => &self.begins,
-            Edge::End => &self.ends,
+            Edge::Begin => &syncs[..begins],
+            Edge::End => &syncs[begins..],
         }
     }
 }

@@ -98,5 +98,5 @@ impl Clocks {
 fn parent_place(node: Option<NodeClock>) -> Option<usize>
     ensures { result ≡ option_and_then (λ (n : AnyClock). n.parent) node }
 {
-    node?.parent
+    node?.parent_place()
 }

@@ -13,8 +13,8 @@ idle_at serial parent = record { serial = serial; parent = parent; paused = fals
 pub loop-node-init : goal.loop-node-init
 loop-node-init c = (walk_begun _ _ (c.into_iter-node-iterator.ensures.into_iter_gives ∙ c.nodes-node-items.ensures), c.in_ok-clocks.ensures.items)
 
-pub parent_place-requires : goal.parent_place-requires
-parent_place-requires c = ap is_some (is_found c.args.tree.now.nodes c.loop-node.node-iterator c.in-Some.node.now c.next.new.self c.loop-node.invariant.0 c.in-Some.ensures.steps c.requires.distinct)
+pub parent_of-requires : goal.parent_of-requires
+parent_of-requires c = ap is_some (is_found c.args.tree.now.nodes c.loop-node.node-iterator c.in-Some.node.now c.next.new.self c.loop-node.invariant.0 c.in-Some.ensures.steps c.requires.distinct)
 
 pub loop-node-preserved : goal.loop-node-preserved
 loop-node-preserved c =
@@ -22,8 +22,8 @@ loop-node-preserved c =
     let walk = c.loop-node.invariant.0 in
     let node = c.in-Some.node.now in (
       walk_on nodes c.loop-node.node-iterator node c.next.new.self walk c.in-Some.ensures.steps,
-      mapped_on (idle_clock nodes) walk.past node c.loop-node.clocks.items c.push.new.self.items (idle_at node.serial c.parent_place.result) c.loop-node.invariant.1 c.in_ok-push.ensures.items
-          (ap (idle_at node.serial) c.parent_place.ensures),
+      mapped_on (idle_clock nodes) walk.past node c.loop-node.clocks.items c.push.new.self.items (idle_at node.serial c.parent_of.result) c.loop-node.invariant.1 c.in_ok-push.ensures.items
+          (ap (idle_at node.serial) c.parent_of.ensures),
     )
 
 pub returns : goal.returns

@@ -1,5 +1,6 @@
-use Rattle.std.proofs.Common.{◌≤◌, subst, sym, ◌∙◌, length, false, arith}
-use Rattle.std.specs.Prelude.{None, pos}
+use Rattle.std.proofs.Common.{◌≤◌, subst, sym, ap, ◌∙◌, length, false, arith}
+use Rattle.std.specs.Prelude.{None, not, pos}
+use Rattle.smil_diary.specs.Places.{is_from}
 use mir.Syntax.{w64}
 use Rattle.std.proofs.lemmas.Bool.{not-true}
 use Rattle.std.proofs.lemmas.Int.{to_z-of_z}
@@ -18,7 +19,7 @@ pub returns-then-is_outside : goal.returns-then-is_outside
 returns-then-is_outside c = λ after turned.
     let kept = subst (λ m. IsTurned c.args.first m c.args.clocks.now after) (sym (to_z-of_z w64 c.args.moment c.ranges.moment)) turned in
     done_early c.args.first c.args.moment c.args.clocks.now after c.loop-place.clocks turned c.loop-place.place none c.loop-place-test.true c.loop-place.auto.clocks
-    c.loop-place.invariant.rest (c.loop-place.invariant.done after kept) c.if-first-place.true (not-true _ (sym c.is_outside.ensures ∙ c.if-is_outside.true))
+    c.loop-place.invariant.rest (c.loop-place.invariant.done after kept) c.if-first-place.true (not-true _ (ap (λ p. not (is_from c.args.first p)) (sym c.parent_place.ensures) ∙ sym c.is_outside.ensures ∙ c.if-is_outside.true))
 
 pub turned-requires-clause-fits : goal.turned-requires-clause-fits
 turned-requires-clause-fits c =

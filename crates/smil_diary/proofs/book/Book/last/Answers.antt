@@ -3,7 +3,7 @@ use Rattle.std.specs.Prelude.{IfSome}
 use Rattle.smil_model.specs.declared.diary.Entry.{Entry}
 use Rattle.smil_model.specs.diary.Diary.{is_step, last_step}
 use Rattle.smil_diary.proofs.ElementIndex.{last-kept}
-use Rattle.smil_diary.proofs.FinishedIntervals.{last-within}
+use Rattle.smil_diary.proofs.LastPlaces.{last-within}
 use Rattle.smil_diary.proofs.book.Book.last.Goals as goal
 
 value-of : (c : goal.After-last) → c.last.result ≡ last_step c.args.self.now c.args.kind c.args.who

@@ -4,7 +4,7 @@ use Rattle.smil_model.specs.declared.diary.Entry.{Entry}
 use Rattle.smil_model.specs.diary.Diary.{last_place, gives_birth}
 use Rattle.smil_diary.specs.ElementPlaces.{birth_by}
 use Rattle.smil_diary.proofs.HistoryReadings.{birth-of}
-use Rattle.smil_diary.proofs.FinishedIntervals.{last-within}
+use Rattle.smil_diary.proofs.LastPlaces.{last-within}
 use Rattle.smil_diary.proofs.book.Book.last_birth.Goals as goal
 
 value-of : (c : goal.After-last_birth) → c.last_birth.result ≡ last_place (λ (x : Entry). gives_birth c.args.who x.step) c.args.self.now

@@ -8,11 +8,10 @@ pub returns-in-Some : goal.returns-in-Some
 returns-in-Some c =
     let items = c.self.inside.elements.items in
     ap (λ (e : _ × ElementPlaces). e.1) c.index.ensures
-    ∙ sym (kept_at items c.args.who c.in-Some.row c.index.result.now (sym (c.in-Some.ensures ∙ c.self.invariant.0 c.args.who)))
+    ∙ sym (kept_at items c.args.who c.in-Some.row c.index.result.now (sym (c.in-Some.ensures ∙ c.self.invariant c.args.who)))
     ∙ ap (λ es. kept es c.args.who) c.self.view_is
 
 pub returns-in-None : goal.returns-in-None
 returns-in-None c =
-    c.self.invariant.1
-    ∙ sym (kept_none c.self.inside.elements.items c.args.who (sym (c.in-None.ensures ∙ c.self.invariant.0 c.args.who)))
+    sym (kept_none c.self.inside.elements.items c.args.who (sym (c.in-None.ensures ∙ c.self.invariant c.args.who)))
     ∙ ap (λ es. kept es c.args.who) c.self.view_is
