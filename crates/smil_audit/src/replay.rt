@@ -402,10 +402,10 @@ fn fill_keys(rows: &[CurrentRow], keys: &mut Vec<Key>) -> Result<(), AllocError>
 {
     keys.clear();
     for row in rows {
-        if let Some(moved) = row.comings.moved {
+        if let Some(moved) = row.comings.moved() {
             keys.push(moved.key)?;
         }
-        if let Some(repeat) = row.comings.repeat {
+        if let Some(repeat) = row.comings.repeat() {
             keys.push(repeat.key)?;
         }
     }

@@ -89,6 +89,10 @@ none_moves h interval now place e t told stands_now =
     by true = refl
     by false = refl
 
+pub no_other : (o : Option Interval) → ((i : Interval) → o ≡ Some i → ⊥) → o ≡ None
+no_other None never = refl
+no_other (Some i) never = absurd (never i refl)
+
 pub none_comes : (h : History) (interval : Option Interval) (now : ℤ) (place : ℕ) (e : Node) → interval ≡ None → [] ≡ moved_by h interval now place e
 none_comes h interval now place e none = rw none (by (is_active h.diary e.serial) (outer_stands h e.serial))
   where

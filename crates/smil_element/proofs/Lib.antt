@@ -18,3 +18,4 @@ pub mod PresentMoment
 pub mod TimeParents
 pub mod IndexedElements
 pub mod OutcomeParts
+mod SameNumbers

@@ -6,3 +6,5 @@ pub mod Displaced
 pub mod Pouring
 pub mod Endings
 pub mod Subject
+pub mod Changes
+pub mod Packed

@@ -13,7 +13,7 @@ mod cuts;
 mod excl;
 mod parts;
 
-pub use change::{Change, DueChange, is_same_coming};
+pub use change::{Change, DueChange};
 use cuts::{put, stop};
 use excl::{left_excl, rival};
 pub use parts::Parts;

@@ -16,10 +16,10 @@ pub mod present;
 pub mod subject;
 pub mod view;
 
-pub use comings::DueChanges;
+pub use comings::{DueChanges, is_same_comings};
 pub use endings::{Ending, ending_of, is_named, is_same_ending, walked_duration};
 pub use evaluation::Room;
-pub use happening::{Change, DueChange, Parts, group_of, is_same_coming};
+pub use happening::{Change, DueChange, Parts, group_of};
 pub use intervals::{Container, Containers, Intervals};
 pub use outcome::{Outcome, outcome_of};
 pub use present::Present;

@@ -61,10 +61,7 @@ pub fn outcome_of<J: Containers, L: Ledger>(
     if is_out(present, place as usize) {
         return Ok(Outcome {
             interval: evaluate_absent(steps),
-            comings: DueChanges {
-                moved: None,
-                repeat: None,
-            },
+            comings: DueChanges::nothing(place, present.who),
         });
     }
     let subject = subject_at(present, place as usize);

@@ -129,6 +129,7 @@ impl DueTree {
     }
 
     /// Puts a number, or none, into a slot. It takes log n steps for n slots, and no memory.
+    #[inline(never)]
     pub fn set(&mut self, slot: usize, number: Option<u64>)
         requires slot { slot < length self.old }
         requires number { IfSome number IsNumber }

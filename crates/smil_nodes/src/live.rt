@@ -29,12 +29,12 @@ use super::touched::{Network, note_touched};
 use super::undo::{Note, Undo};
 use smil_cells::{Cells, Since, Table};
 use smil_element::{
-    DueChange, DueChanges, Ending, Intervals, Present, Room, ending_of, is_same_ending, outcome_of,
+    DueChange, DueChanges, Intervals, Present, Room, ending_of, is_same_comings, is_same_ending,
+    outcome_of,
 };
 use smil_interval::{Steps, is_same_interval};
 use smil_model::{Duplicate, Interval, PlaceSet, Serials};
 use smil_past::Past;
-use smil_rounds::current_rows::is_same_comings;
 use std::alloc::{AllocError, Global};
 use std::sync::ledger::Ledger;
 
@@ -271,35 +271,34 @@ impl LiveTable {
             index,
         };
         let made = outcome_of(present, index as u32, &sources, &mut self.room, steps)?;
-        let ending = ending_kept(&self.endings, index, present, made.interval);
-        self.replace(index, made.interval, &made.comings, ending)
+        let changes = self.replace(index, made.interval, &made.comings)?;
+        self.put_ending(index, present, made.interval)?;
+        Ok(changes)
     }
 
-    // Puts an interval, and what comes by it, in the row at an index, and the ending of its
-    // element; where a mark stands, what was there is noted. Nothing is done where all of that is
-    // there already. The answer is whether the interval is another than before.
+    // Puts an interval, and what comes by it, in the row at an index; where a mark stands, what was
+    // there is noted. Nothing is done where that is there already. The answer is whether the
+    // interval is another than before.
     fn replace(
         &mut self,
         index: usize,
         interval: Option<Interval>,
         comings: &DueChanges,
-        ending: Ending,
     ) -> Result<bool, AllocError>
         requires index { index < length self.old.schedule }
         requires near { IfSome interval IsIntervalNear }
         ensures put { OnOk result (self.new.schedule
             ≡ row_put self.old.schedule index interval comings.now) }
-        ensures ended { OnOk result (self.new.endings
-            ≡ put_ending self.old.endings index ending) }
         ensures changes { IfOk result (λ changes. (row : AnyRow)
             → slice_get self.old.schedule index ≡ Some row
             → (changes ≡ false) ↔ (row.interval ≡ interval)) }
+        ensures endings { self.new.endings ≡ self.old.endings }
         ensures back { GoesBack self.old self.new }
         ensures agenda { self.new.agenda ≡ self.old.agenda }
         ensures has_mark { self.new.has_mark ≡ self.old.has_mark }
     {
         let changes = !is_same_interval(self.schedule.row(index).interval, interval);
-        if !changes && self.is_there(index, comings, ending) {
+        if !changes && self.is_there(index, comings) {
             return Ok(false);
         }
         if self.has_mark {
@@ -307,38 +306,49 @@ impl LiveTable {
                 .note(index, self.schedule.row(index), &self.endings)?;
         }
         self.schedule.put(index, interval, comings);
-        self.endings.put(index, ending);
         Ok(changes)
     }
 
-    // Whether this comes by the row at an index, and its element has this ending.
-    fn is_there(&self, index: usize, comings: &DueChanges, ending: Ending) -> bool
+    // Whether this comes by the row at an index.
+    fn is_there(&self, index: usize, comings: &DueChanges) -> bool
         requires { index < length self.now.schedule }
         ensures { (row : AnyRow) → slice_get self.now.schedule index ≡ Some row
-            → (IsTrue result
-            ↔ ((row.comings ≡ comings.now) × (ending ≡ ending_in self.now.endings index))) }
+            → (IsTrue result ↔ (row.comings ≡ comings.now)) }
     {
         is_same_comings(&self.schedule.row(index).comings, comings)
-            && is_same_ending(self.endings.ending(index), ending)
     }
-}
 
-// The ending of an element with an index, by its interval; where it is not kept the one that stands
-// there.
-fn ending_kept(
-    endings: &Endings,
-    index: usize,
-    present: &Present<'_>,
-    interval: Option<Interval>,
-) -> Ending
-    requires { has_element present.now.past.now.document.nodes present.now.who ≡ true }
-    ensures { put_ending endings.now index result ≡ put_ending endings.now index
-        (ending_by (history_of present.now.past.now) interval present.now.who) }
-{
-    if endings.keeps(index) {
-        ending_of(present.past, present.who, interval)
-    } else {
-        endings.ending(index)
+    // Puts the ending of an element with an index, by its interval, where that is kept; where a
+    // mark stands, what was there is noted. Nothing is done where it is there already.
+    #[inline(always)]
+    fn put_ending(
+        &mut self,
+        index: usize,
+        present: &Present<'_>,
+        interval: Option<Interval>,
+    ) -> Result<(), AllocError>
+        requires element { has_element present.now.past.now.document.nodes present.now.who ≡ true }
+        requires index { index < length self.old.schedule }
+        ensures ended { OnOk result (self.new.endings ≡ put_ending self.old.endings index
+            (ending_by (history_of present.now.past.now) interval present.now.who)) }
+        ensures rows { self.new.schedule ≡ self.old.schedule }
+        ensures back { GoesBack self.old self.new }
+        ensures agenda { self.new.agenda ≡ self.old.agenda }
+        ensures has_mark { self.new.has_mark ≡ self.old.has_mark }
+    {
+        if !self.endings.keeps(index) {
+            return Ok(());
+        }
+        let ending = ending_of(present.past, present.who, interval);
+        if is_same_ending(self.endings.ending(index), ending) {
+            return Ok(());
+        }
+        if self.has_mark {
+            self.undo
+                .note(index, self.schedule.row(index), &self.endings)?;
+        }
+        self.endings.put(index, ending);
+        Ok(())
     }
 }
 

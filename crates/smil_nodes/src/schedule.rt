@@ -106,6 +106,7 @@ impl Schedule {
 
     /// Puts an interval, and what comes, in the row at an index. It takes no memory, and log n steps
     /// at most for n elements.
+    #[inline(always)]
     pub fn put(&mut self, index: usize, interval: Option<Interval>, comings: &DueChanges)
         requires index { index < length self.old }
         requires near { IfSome interval IsIntervalNear }
@@ -135,12 +136,12 @@ fn first_number(comings: &DueChanges) -> Option<u64>
     ensures value { result ≡ slot_of comings.now }
     ensures few { IfSome result IsNumber }
 {
-    earlier(number(&comings.moved), number(&comings.repeat))
+    earlier(number(comings.moved()), number(comings.repeat()))
 }
 
 // The number of the key of what comes, if something does.
-fn number(coming: &Option<DueChange>) -> Option<u64>
-    ensures value { result ≡ coming_number coming.now }
+fn number(coming: Option<DueChange>) -> Option<u64>
+    ensures value { result ≡ coming_number coming }
     ensures few { IfSome result IsNumber }
 {
     match coming {
@@ -175,8 +176,8 @@ fn chosen(repeats: bool, comings: &DueChanges) -> Option<DueChange>
     ensures { IsChosenBy (λ (k : AnyKey). k.repeat) repeats comings.now.moved comings.now.repeat
         result }
 {
-    match comings.moved {
+    match comings.moved() {
         Some(moved) if moved.key.repeat == repeats => Some(moved),
-        _ => comings.repeat,
+        _ => comings.repeat(),
     }
 }

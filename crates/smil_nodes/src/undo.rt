@@ -58,6 +58,7 @@ impl Undo {
     /// Notes the element whose row has this index, and its ending, before it changes, unless it is
     /// noted already. It takes memory for each element once, and a fixed number of steps. Where
     /// memory runs out the element is not noted.
+    #[inline(always)]
     pub fn note(
         &mut self,
         index: usize,

@@ -223,8 +223,8 @@ fn due_of(alloc: Global, rows: &[CurrentRow]) -> Result<DueQueue, AllocError>
 {
     let mut due = DueQueue::new(alloc);
     for row in rows {
-        put_key(&mut due, row.comings.moved)?;
-        put_key(&mut due, row.comings.repeat)?;
+        put_key(&mut due, row.comings.moved())?;
+        put_key(&mut due, row.comings.repeat())?;
     }
     Ok(due)
 }

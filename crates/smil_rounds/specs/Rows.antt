@@ -6,12 +6,13 @@ use Rattle.smil_model.specs.declared.document.Node.{Node}
 use Rattle.smil_model.specs.FirstPlaces.{AreFirstPlaces}
 use Rattle.smil_laws.specs.Near.{IsIntervalNear}
 use Rattle.smil_element.specs.declared.happening.change.DueChange.{DueChange}
+use Rattle.smil_element.specs.Changes.{nothing_due}
 use Rattle.smil_rounds.specs.declared.current_rows.CurrentRow.{CurrentRow}
 
 -- the row of an element without an interval, of which nothing comes
 abbrev pub row_without : ℕ → CurrentRow
 row_without serial =
-    record { serial = serial; interval = None; comings = record { moved = None; repeat = None } }
+    record { serial = serial; interval = None; comings = nothing_due 0 serial }
 
 abbrev pub empty_row : Node → CurrentRow
 empty_row e = row_without e.serial

@@ -13,8 +13,8 @@ ghost use Rattle.smil_rounds.specs.Round.{IsRowOf};
 ghost use Rattle.smil_rounds.specs.Rows.{IsChosen, empty_row, row_without};
 
 use smil_element::{
-    Container, Containers, DueChange, DueChanges, Intervals, Present, Room, is_same_coming,
-    outcome_of, walked_duration,
+    Container, Containers, DueChange, DueChanges, Intervals, Present, Room, outcome_of,
+    walked_duration,
 };
 use smil_interval::Steps;
 use smil_model::{ChildEnd, Duplicate, HasSerial, Interval, Key, SerialTable, Time};
@@ -188,20 +188,13 @@ pub fn row_of<J: Containers, L: Ledger>(
     })
 }
 
-/// Whether the same comes of two elements. It takes no memory.
-pub fn is_same_comings(one: &DueChanges, other: &DueChanges) -> bool
-    ensures { IsTrue result ↔ (one.now ≡ other.now) }
-{
-    is_same_coming(&one.moved, &other.moved) && is_same_coming(&one.repeat, &other.repeat)
-}
-
 // Of what comes of an element the begin or end where that has this key, else the repeat.
 fn chosen(key: Key, comings: &DueChanges) -> Option<DueChange>
     ensures { IsChosen key comings.now.moved comings.now.repeat result }
 {
-    match comings.moved {
+    match comings.moved() {
         Some(moved) if moved.key == key => Some(moved),
-        _ => comings.repeat,
+        _ => comings.repeat(),
     }
 }
 
@@ -214,10 +207,7 @@ fn empty_rows(alloc: Global, whos: &[u32]) -> Result<Vec<CurrentRow>, AllocError
         rows.push(CurrentRow {
             serial: *who,
             interval: None,
-            comings: DueChanges {
-                moved: None,
-                repeat: None,
-            },
+            comings: DueChanges::nothing(0, *who),
         })?;
     }
     Ok(rows)

@@ -9,6 +9,7 @@ use Rattle.smil_laws.specs.Near.{IsIntervalNear}
 use Rattle.smil_instances.proofs.IdTargets.{element_of}
 use Rattle.smil_past.specs.Past.{history_of}
 use Rattle.smil_element.specs.declared.present.Present.{Present}
+use Rattle.smil_element.specs.Changes.{ChangesDue}
 use Rattle.smil_element.specs.Element.{IsEvaluated, both}
 use Rattle.smil_element.proofs.OutcomeParts.{none_given, nothing_comes, outcome_near}
 use Rattle.smil_element.proofs.outcome.outcome_of.Given.{Over}
@@ -23,7 +24,7 @@ returns-then-is_out-clause-made g c = λ e here.
     let idle = c.is_out.ensures.idle c.if-is_out.true in
     record {
       interval = none_given h present.moment present.who e here idle given c.evaluate_absent.result (c.is_out.ensures.out c.if-is_out.true) (λ facts. c.evaluate_absent.ensures.interval facts _ _);
-      comings = nothing_comes h present.moment present.who e here idle c.args.place (simple_of h given e) c.evaluate_absent.result c.evaluate_absent.ensures.none;
+      comings = ap (λ (d : ChangesDue). both d.moved d.repeat) c.nothing.ensures ∙ nothing_comes h present.moment present.who e here idle c.args.place (simple_of h given e) c.evaluate_absent.result c.evaluate_absent.ensures.none;
     }
 
 pub returns-then-is_out-clause-near : goal.returns-then-is_out-clause-near

@@ -2,21 +2,22 @@ use Rattle.std.proofs.Common.{◌≡◌, ◌∙◌, ap, subst, ◌≤◌, length
 use Rattle.std.specs.Prelude.{is_some}
 use Rattle.std.proofs.lemmas.List.{take_all}
 use Rattle.smil_model.specs.declared.document.Node.{Node}
-use Rattle.smil_model.specs.document.Document.{elements}
-use Rattle.smil_rounds.specs.Rows.{row_without}
-use Rattle.smil_nodes.specs.Endings.{HaveHomes}
+use Rattle.smil_model.specs.document.Document.{elements, node_at}
+use Rattle.smil_rounds.specs.declared.current_rows.CurrentRow.{CurrentRow}
+use Rattle.smil_nodes.specs.Endings.{HasHome, HaveHomes}
 use Rattle.smil_nodes.proofs.EndingPlaces.{homes_next, rowed_in, rows_count}
 use Rattle.smil_nodes.proofs.endings.homes_of.Goals as goal
 
 pub home_of-requires-clause-element : goal.home_of-requires-clause-element
 home_of-requires-clause-element c =
-    ap is_some (rowed_in c.args.tree.now.nodes c.args.schedule.now c.rows-row-items.result.now c.loop-row.row-index (row_without 0) c.valid.ensures.numbered.distinct c.requires c.rows-row-items.ensures c.loop-row-test.true).known
+    ap (λ (r : CurrentRow). is_some (node_at (elements c.args.tree.now.nodes) r.serial)) c.row-item.is
+    ∙ ap is_some (rowed_in c.args.tree.now.nodes c.args.schedule.now c.rows-row-items.result.now c.loop-row.row-index c.row-item.result c.valid.ensures.numbered.distinct c.requires c.rows-row-items.ensures c.loop-row-test.true).known
 
 pub loop-row-preserved : goal.loop-row-preserved
 loop-row-preserved c = (
   homes_next c.args.tree.now.nodes c.loop-row.homes.items c.push.new.self.items c.loop-row.row-index _ c.home_of.result
-      (rowed_in c.args.tree.now.nodes c.args.schedule.now c.rows-row-items.result.now c.loop-row.row-index (row_without 0) c.valid.ensures.numbered.distinct c.requires c.rows-row-items.ensures c.loop-row-test.true)
-      c.loop-row.invariant.0 c.home_of.ensures.home c.in_ok-push.ensures.items,
+      (rowed_in c.args.tree.now.nodes c.args.schedule.now c.rows-row-items.result.now c.loop-row.row-index c.row-item.result c.valid.ensures.numbered.distinct c.requires c.rows-row-items.ensures c.loop-row-test.true)
+      c.loop-row.invariant.0 (subst (λ (r : CurrentRow). HasHome c.args.tree.now.nodes r.serial c.home_of.result) c.row-item.is c.home_of.ensures.home) c.in_ok-push.ensures.items,
   c.home_of.ensures.nexts ∙ c.loop-row.invariant.1,
 )
 

@@ -1,8 +1,7 @@
 use Rattle.std.proofs.Common.{◌≡◌, ◌∙◌, ap, sym, List, ◌<◌, ◌≤◌, length, get_or, set, arith}
 use Rattle.std.specs.Prelude.{Option, Some, is_some, slice_get}
 use Rattle.std.proofs.lemmas.Option.{slice_get-get_or}
-use Rattle.std.proofs.lemmas.Result.{on_ok_weaker}
-use Rattle.std.specs.Prelude.{IfOk, OnOk, Result, Ok, Err}
+use Rattle.std.proofs.Math.ListN.{length-set}
 use Rattle.smil_model.specs.declared.interval.Interval.{Interval}
 use Rattle.smil_model.specs.document.Document.{elements}
 use Rattle.smil_past.specs.Past.{history_of}
@@ -13,7 +12,7 @@ use Rattle.smil_rounds.specs.Rows.{row_without}
 use Rattle.smil_rounds.proofs.RowsBesideElements.{interval_at}
 use Rattle.smil_rounds.proofs.RowEvaluated.{IsFound, elements_few, found, has_row, own_interval, row_made, taken_by}
 use Rattle.smil_element.specs.Endings.{ending_by}
-use Rattle.smil_nodes.specs.Endings.{put_ending}
+use Rattle.smil_nodes.specs.Endings.{KeptEnds, put_ending}
 use Rattle.smil_nodes.specs.Schedule.{row_put}
 use Rattle.smil_nodes.proofs.RowAtElement.{first_serial}
 use Rattle.smil_nodes.proofs.EndingPlaces.{rows_count}
@@ -21,11 +20,6 @@ use Rattle.smil_nodes.proofs.RowsPutBack.{row_set}
 use Rattle.smil_nodes.proofs.live.LiveTable.evaluate.Given.{Over}
 use Rattle.smil_nodes.proofs.live.LiveTable.evaluate.Goals as goal
 use Rattle.smil_nodes.proofs.live.LiveTable.evaluate.Goals.{After-unwrap-index, In_ok-made}
-
--- what follows at Ok from two things that hold there
-ok_both : {T E P : Type 0} (r : Result T E) (Q R : T → Type 0) → (P → (x : T) → Q x → R x) → OnOk r P → IfOk r Q → IfOk r R
-ok_both (Ok x) Q R f p q = f p x q
-ok_both (Err e) Q R f p q = tt
 
 -- the element and its row
 found_row : (g : Over) (c : After-unwrap-index g) → IsFound c.args.present.now.past.now.document.nodes c.args.self.now.schedule c.args.present.now.who c.unwrap-index.result
@@ -94,41 +88,54 @@ module _ (g : Over) (c : In_ok-made g) where
   own : (rows : List CurrentRow) → rows ≡ row_put c.args.self.now.schedule c.unwrap-index.result made.interval made.comings → interval_in rows c.args.present.now.who ≡ made.interval
   own rows put = own_interval _ c.args.self.now.schedule _ _ made at is_row.serial rows (put_is rows put)
 
+pub put_ending-requires-clause-index : goal.put_ending-requires-clause-index
+put_ending-requires-clause-index g c =
+    let all = (goal.at.put_ending-requires-clause-index g c).In_ok-made in
+    let new = c.replace.new.self.schedule in
+    let count : length new ≡ length c.args.self.now.schedule = ap length (put_is g all new c.in_ok-changes.ensures.put) ∙ simp length-set in
+    let here : c.unwrap-index.result < length c.args.self.now.schedule = within g (goal.at.put_ending-requires-clause-index g c).After-unwrap-index in
+    omega (arith, count, here)
+
+pub returns-in_err-put_ending-clause-back : goal.returns-in_err-put_ending-clause-back
+returns-in_err-put_ending-clause-back g c = λ marked.
+    c.put_ending.ensures.back (c.replace.ensures.has_mark ∙ marked) ∙ c.replace.ensures.back marked
+
+pub returns-clause-back : goal.returns-clause-back
+returns-clause-back g c = λ marked.
+    c.put_ending.ensures.back (c.replace.ensures.has_mark ∙ marked) ∙ c.replace.ensures.back marked
+
 pub returns-clause-taken : goal.returns-clause-taken
 returns-clause-taken g c =
     let all = (goal.at.returns-clause-taken g c).In_ok-made in
-    let rows = c.replace.new.self.schedule in
-    on_ok_weaker c.replace.result (λ put. taken_by (history_of c.args.present.now.past.now) c.args.present.now.moment _ _ c.args.self.now.schedule rows (made g all) (at g all) (is_row g all) (put_is g all rows put)) c.replace.ensures.put
+    let rows = c.put_ending.new.self.schedule in
+    taken_by (history_of c.args.present.now.past.now) c.args.present.now.moment _ _ c.args.self.now.schedule rows (made g all) (at g all) (is_row g all) (put_is g all rows (c.put_ending.ensures.rows ∙ c.in_ok-changes.ensures.put))
 
 pub returns-clause-same : goal.returns-clause-same
 returns-clause-same g c =
     let all = (goal.at.returns-clause-same g c).In_ok-made in
     let rows = c.args.self.now.schedule in
-    let new = c.replace.new.self.schedule in
-    ok_both c.replace.result _ _
-    (λ put changes differs.
-    let after : interval_in new c.args.present.now.who ≡ (made g all).interval = own g all new put in
+    let new = c.put_ending.new.self.schedule in
+    let after : interval_in new c.args.present.now.who ≡ (made g all).interval = own g all new (c.put_ending.ensures.rows ∙ c.in_ok-changes.ensures.put) in
     let before : interval_in rows c.args.present.now.who ≡ (old g all).interval = interval_at _ rows _ (old g all) (at g all).first (was g all) in
-    let by = differs (old g all) (was g all) in (
+    let by = c.in_ok-changes.ensures.changes (old g all) (was g all) in (
       λ unchanged. after ∙ sym (before ∙ by.0 unchanged),
       λ same. by.1 (sym before ∙ sym same ∙ after),
-    ))
-    c.replace.ensures.put c.replace.ensures.changes
+    )
 
 pub returns-clause-ended : goal.returns-clause-ended
 returns-clause-ended g c =
     let all = (goal.at.returns-clause-ended g c).In_ok-made in
     let who = c.args.present.now.who in
-    let new = c.replace.new.self.schedule in
-    ok_both c.replace.result _ _
-    (λ put changes ended. record {
+    let h = history_of c.args.present.now.past.now in
+    let new = c.put_ending.new.self.schedule in
+    let index = c.unwrap-index.result in
+    record {
       place = c.unwrap-index.result;
       element = (at g all).element;
       here = (at g all).here;
       is_who = (at g all).is_who;
       after_is =
-          ended
-          ∙ c.ending_kept-ending.ensures
-          ∙ ap (λ (o : Option Interval). put_ending c.args.self.now.endings c.unwrap-index.result (ending_by (history_of c.args.present.now.past.now) o who)) (sym (own g all new put));
-    })
-    c.replace.ensures.put c.replace.ensures.ended
+          c.in_ok-put_ending.ensures.ended
+          ∙ ap (λ (kept : KeptEnds). put_ending kept index (ending_by h (made g all).interval who)) c.replace.ensures.endings
+          ∙ ap (λ (o : Option Interval). put_ending c.args.self.now.endings index (ending_by h o who)) (sym (own g all new (c.put_ending.ensures.rows ∙ c.in_ok-changes.ensures.put)));
+    }

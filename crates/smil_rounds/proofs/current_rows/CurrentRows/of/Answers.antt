@@ -1,4 +1,4 @@
-use Rattle.std.proofs.Common.{rules, ◌≡◌, subst, sym, ◌∙◌, ap, map, List, ℕ}
+use Rattle.std.proofs.Common.{rules, ◌≡◌, subst, sym, ◌∙◌, ap, map, ℕ}
 use Rattle.std.specs.Prelude.{◌==◌}
 use Rattle.std.specs.FinMap.{get}
 use Rattle.std.specs.List.{position}
