@@ -27,7 +27,7 @@ module _ (change : Attrs → Attrs) (s : ℕ) where
 
   -- ---- children
 
-  same_serials : (t u : Node → Bool) (ns : List Node) → ((n : Node) → u (edit change s n) ≡ t n) → serials (filter u (changed_at change s ns)) ≡ serials (filter t ns)
+  pub same_serials : (t u : Node → Bool) (ns : List Node) → ((n : Node) → u (edit change s n) ≡ t n) → serials (filter u (changed_at change s ns)) ≡ serials (filter t ns)
   same_serials t u [] same = refl
   same_serials t u (n ∷ ns) same =
       ap (λ b. serials (cond b (edit change s n ∷ filter u (changed_at change s ns)) (filter u (changed_at change s ns)))) (same n) ∙ step (t n) (same_serials t u ns same)
@@ -36,7 +36,7 @@ module _ (change : Attrs → Attrs) (s : ℕ) where
       step true rest = ap (λ x. x ∷ serials (filter u (changed_at change s ns))) (serial_same change s n) ∙ ap (λ xs. n.serial ∷ xs) rest
       step false rest = rest
 
-  element_same : (n : Node) → is_element (edit change s n) ≡ is_element n
+  pub element_same : (n : Node) → is_element (edit change s n) ≡ is_element n
   element_same n = by_test (n.serial == s)
     where
       by_test : (t : Bool) → is_element (cond t (record n { attrs = change n.attrs }) n) ≡ is_element n
@@ -51,7 +51,7 @@ module _ (change : Attrs → Attrs) (s : ℕ) where
       step true rest = ap (λ y. y == x) (serial_same change s n)
       step false rest = rest
 
-  rest_same : (ns : List Node) → drop 1 (map (edit change s) ns) ≡ map (edit change s) (drop 1 ns)
+  pub rest_same : (ns : List Node) → drop 1 (map (edit change s) ns) ≡ map (edit change s) (drop 1 ns)
   rest_same [] = refl
   rest_same (n ∷ ns) = refl
 
@@ -61,7 +61,7 @@ module _ (change : Attrs → Attrs) (s : ℕ) where
       ∙ ap (λ c. has_serial x (find is_element c)) (rest_same (lineage nodes y))
       ∙ found_same x (drop 1 (lineage nodes y))
 
-  time_child_same : (nodes : List Node) (x : ℕ) (n : Node) → is_time_child (changed_at change s nodes) x (edit change s n) ≡ is_time_child nodes x n
+  pub time_child_same : (nodes : List Node) (x : ℕ) (n : Node) → is_time_child (changed_at change s nodes) x (edit change s n) ≡ is_time_child nodes x n
   time_child_same nodes x n =
       ap (λ b. b && has_serial x (time_parent (changed_at change s nodes) (edit change s n).serial)) (element_same n)
       ∙ ap (λ y. is_element n && has_serial x (time_parent (changed_at change s nodes) y)) (serial_same change s n)

@@ -47,7 +47,7 @@ module _ (change : Attrs → Attrs) (s : ℕ) where
   parent_stays n true = refl
   parent_stays n false = refl
 
-  any_stays : (x : ℕ) (ns : List Node) → list_any (λ (m : Node). m.serial == x) (changed_at change s ns) ≡ list_any (λ (m : Node). m.serial == x) ns
+  pub any_stays : (x : ℕ) (ns : List Node) → list_any (λ (m : Node). m.serial == x) (changed_at change s ns) ≡ list_any (λ (m : Node). m.serial == x) ns
   any_stays x [] = refl
   any_stays x (n ∷ ns) =
       ap (λ y. (y == x) || list_any (λ (m : Node). m.serial == x) (changed_at change s ns)) (serial_stays n (n.serial == s))

@@ -131,3 +131,11 @@ module _ (change : Attrs → Attrs) (s : ℕ) where
             after = ap (λ t. cond t (with_attrs change n) n ∷ changed_at change s ns) e ∙ ap (λ ms. n ∷ ms) a.after;
             others = or_from _ _ e a.others;
           }
+
+-- a node owns its id
+pub owned : (s : ℕ) (nodes : List Node) (old : Node) → IsDistinct nodes → node_at nodes s ≡ Some old → ((q : List ℕ) → count_by (bears q) nodes ≤ 1) → (q : List ℕ) → bears q old ≡ true → owner q nodes ≡ Some old.serial
+owned s nodes old d at once q own =
+    let a = around (λ attrs. attrs) s nodes old d at in
+    ap (owner q) a.before
+    ∙ owner-between q a.front old a.back (omega (arith, once q, ap (count_by (bears q)) a.before))
+    ∙ ap (λ t. cond t (Some old.serial) (owner q (a.front ++ a.back))) own

@@ -1,6 +1,6 @@
 -- When an insertion is refused, and the document where it is not.
 use Rattle.std.proofs.Common.{◌≡◌, refl, ap, ℕ, suc, ◌+◌, ◌-◌, ◌*◌, ◌<◌, ◌≤◌, List, Option, Some, None, Result, Ok, Err, Bool, true, false, cond, length}
-use Rattle.std.specs.Prelude.{◌&&◌, ◌||◌, not, slice_get, nat_lt, nat_le, ⊤}
+use Rattle.std.specs.Prelude.{◌&&◌, ◌||◌, not, is_some, IsSome, slice_get, nat_lt, nat_le, ⊤}
 use Rattle.std.proofs.lemmas.Bool.{and_parts, or_parts, ltb-true, ltb-false, leb-false}
 use Rattle.smil_model.specs.declared.limits.TheConstants.{NODES, DEPTH, REFERENCES, SERIALS, ITEMS}
 use Rattle.smil_model.specs.declared.document.Node.{Node}
@@ -81,6 +81,10 @@ bearer nodes parent kind attrs h = by_node (node_at nodes parent) refl h
 
 pub few_among : (nodes : List Node) (parent : ℕ) (kind : Kind) (attrs : Attrs) → may_bear nodes parent kind attrs ≡ true → references_among attrs ≤ 2 * ITEMS
 few_among nodes parent kind attrs h = let b = bearer nodes parent kind attrs h in fit_few kind (Some b.node.kind) attrs b.fits
+
+-- what may bear a node is one
+pub bearer_known : (nodes : List Node) (parent : ℕ) (kind : Kind) (attrs : Attrs) → may_bear nodes parent kind attrs ≡ true → IsSome (node_at nodes parent)
+bearer_known nodes parent kind attrs h = let b = bearer nodes parent kind attrs h in ap is_some b.at
 
 module _ (d : Document) (valid : IsValid d) (parent place : ℕ) (kind : Kind) (attrs : Attrs) (takes : may_bear d.nodes parent kind attrs ≡ true) where
   abbrev pub after : Document

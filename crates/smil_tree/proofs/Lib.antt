@@ -27,3 +27,4 @@ pub mod KinTrees
 pub mod KinCallers
 pub mod NodeWalks
 pub mod OutlineRows
+pub mod UnreadAttributes

@@ -101,7 +101,7 @@ module _ (change : Attrs → Attrs) (s : ℕ) where
   distinct_changed (n ∷ ns) apart =
       (ap (λ k. list_any (λ (m : Node). m.serial == k) (changed_at change s ns)) (same_serial n (n.serial == s)) ∙ any_changed n.serial ns ∙ apart.0, distinct_changed ns apart.1)
 
-  place_changed : (v : ℕ) (ns : List Node) → place_among (changed_at change s ns) v ≡ place_among ns v
+  pub place_changed : (v : ℕ) (ns : List Node) → place_among (changed_at change s ns) v ≡ place_among ns v
   place_changed v [] = refl
   place_changed v (n ∷ ns) =
       position_cons (λ (m : Node). m.serial == v) (cond (n.serial == s) (with_attrs change n) n) (changed_at change s ns)

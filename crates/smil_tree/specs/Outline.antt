@@ -1,7 +1,12 @@
 -- What is read most of each node, kept by its place.
-use Rattle.std.specs.Prelude.{◌≡◌, ℕ, ◌≤◌, ◌==◌, List, take, length, sum_by, if◌then◌else◌, Option, Some, None, option_and_then, slice_get, slice_range}
+use Rattle.std.specs.Prelude.{◌≡◌, ℕ, ◌≤◌, ◌==◌, List, take, length, sum_by, Bool, true, false, if◌then◌else◌, Option, Some, None, option_and_then, slice_get, slice_range}
 use Rattle.std.specs.List.{position}
 use Rattle.std.specs.Vec.{vec_capacity}
+use Rattle.smil_model.specs.declared.document.Attr.{Attr}
+use Rattle.smil_model.specs.declared.document.Attr.TheVariants as attr
+use Rattle.smil_model.specs.declared.document.AttrName.{AttrName}
+use Rattle.smil_model.specs.declared.document.AttrName.TheVariants as name
+use Rattle.smil_model.specs.declared.document.Attrs.{Attrs}
 use Rattle.smil_model.specs.declared.document.Node.{Node}
 use Rattle.smil_model.specs.declared.document.Restart.{Restart}
 use Rattle.smil_model.specs.declared.document.Restart.TheVariants.{Always}
@@ -46,6 +51,29 @@ pub record HasChildren (nodes : List Node) (children : List ℕ) (n : Node) (row
   pub in_order : row.children_start ≤ row.children_end
   pub within : row.children_end ≤ length children
   pub listed : children_at children row ≡ serials (time_children nodes n.serial)
+
+-- whether a row is read from this attribute
+abbrev pub reads : Attr → Bool
+reads (attr.Restart v) = true
+reads (attr.Fill v) = true
+reads (attr.RestartDefault v) = true
+reads (attr.FillDefault v) = true
+reads _ = false
+
+-- the same by its name
+abbrev pub reads_name : AttrName → Bool
+reads_name name.Restart = true
+reads_name name.Fill = true
+reads_name name.RestartDefault = true
+reads_name name.FillDefault = true
+reads_name _ = false
+
+-- a change of attributes leaves those that the rows are read from
+pub record KeepsRows (change : Attrs → Attrs) : Type 0 where
+  pub restart : (attrs : Attrs) → (change attrs).restart ≡ attrs.restart
+  pub fill : (attrs : Attrs) → (change attrs).fill ≡ attrs.fill
+  pub restart_default : (attrs : Attrs) → (change attrs).restart_default ≡ attrs.restart_default
+  pub fill_default : (attrs : Attrs) → (change attrs).fill_default ≡ attrs.fill_default
 
 -- there is room for the rows, the time children and the elements of so many nodes
 pub record HasRoomFor (outline : Outline) (count : ℕ) : Type 0 where

@@ -1,17 +1,17 @@
 //! What is read most of each node, in document order.
 
-ghost use Rattle.std.specs.Prelude.{◌≡◌, ℕ, ◌+◌, ◌<◌, ◌≤◌, List, [], ◌∷◌, ◌++◌, length, Some, if◌then◌else◌, IfOk, OnOk, vec_capacity, slice_get, option_copied, unwrap_or};
+ghost use Rattle.std.specs.Prelude.{◌≡◌, ℕ, ◌+◌, ◌<◌, ◌≤◌, List, [], ◌∷◌, ◌++◌, length, Some, if◌then◌else◌, IfOk, OnOk, vec_capacity, slice_get, option_copied, unwrap_or, false};
 ghost use Rattle.smil_model.specs.declared.document.Node.{Node as AnyNode};
 ghost use Rattle.smil_model.specs.document.Document.{is_element, serials, time_children};
 ghost use Rattle.smil_model.specs.document.Valid.{IsValid};
 ghost use Rattle.smil_tree.specs.Kin.{IsKinOf};
-ghost use Rattle.smil_tree.specs.Outline.{BeginsOutline, HasChildren, HasRoomFor, IsAbove, IsOutlineOf, IsRowOf, default_fill_from, default_restart_from, fill_by, own, parent_from, restart_by, children_at};
+ghost use Rattle.smil_tree.specs.Outline.{BeginsOutline, HasChildren, HasRoomFor, IsAbove, IsOutlineOf, IsRowOf, default_fill_from, default_restart_from, fill_by, own, parent_from, reads as reads_attr, reads_name as reads_attr_name, restart_by, children_at};
 
 use super::kin::Kin;
 use super::nodes::Nodes;
 use super::tree::defaults::{own_fill, own_restart, stated_fill, stated_restart};
 use super::tree::spans::end_of;
-use smil_model::{Fill, Kind, Node, Restart};
+use smil_model::{Attr, AttrName, Fill, Kind, Node, Restart};
 use std::alloc::{AllocError, Global};
 
 /// A node by its place in document order and its serial.
@@ -137,6 +137,20 @@ impl Outline {
         }
     }
 
+    /// Makes the outline that of these nodes, for which there is room, where it may not be so. It
+    /// takes no memory.
+    pub fn follow(&mut self, nodes: &Nodes, kin: &Kin, differs: bool)
+        requires room { HasRoomFor self.old (length nodes.now) }
+        requires kin { IsKinOf kin.now nodes.now }
+        requires valid { (next : ℕ) × IsValid (record { nodes = nodes.now; next = next }) }
+        requires same { differs ≡ false → IsOutlineOf nodes.now self.old }
+        ensures { IsOutlineOf nodes.now self.new }
+    {
+        if differs {
+            self.refresh(nodes, kin);
+        }
+    }
+
     // Empties the outline.
     fn clear(&mut self)
         ensures { (nodes : List AnyNode) → HasRoomFor self.old (length nodes)
@@ -207,6 +221,26 @@ impl Outline {
             row,
         })
     }
+}
+
+/// Whether a row is read from an attribute: `restart` and `fill`, and the defaults of both.
+pub fn reads(attr: &Attr) -> bool
+    ensures { result ≡ reads_attr attr.now }
+{
+    matches!(
+        attr,
+        Attr::Restart(_) | Attr::Fill(_) | Attr::RestartDefault(_) | Attr::FillDefault(_)
+    )
+}
+
+/// The same by the name of the attribute.
+pub fn reads_name(name: AttrName) -> bool
+    ensures { result ≡ reads_attr_name name }
+{
+    matches!(
+        name,
+        AttrName::Restart | AttrName::Fill | AttrName::RestartDefault | AttrName::FillDefault
+    )
 }
 
 // These items, with room for so many at least.

@@ -27,13 +27,14 @@ use super::outline::{Outline, OutlineRow};
 use smil_model::{Attrs, Doc, Duplicate, Kind, Node, REFERENCES, Who, references_in};
 use std::alloc::{AllocError, Global};
 use std::marker::Model;
+use std::rc::Rc;
 
 /// A document that is read and edited in place, seen as the document that it stands for.
 pub struct Tree {
     nodes: Nodes,
     next: u32,
-    kin: Kin,
-    ids: Ids,
+    kin: Rc<Kin>,
+    ids: Rc<Ids>,
     references: usize,
     outline: Outline,
     alloc: Global,
@@ -63,7 +64,7 @@ impl Model for Tree {
     ghost view = { λ a. record { nodes = a.nodes; next = a.next } };
 
     ghost invariant = { λ a.
-        IsKept a.nodes a.next a.ids a.references a.kin a.outline };
+        IsKept a.nodes a.next a.ids.value a.references a.kin.value a.outline };
 }
 
 impl Duplicate for Tree {
@@ -71,8 +72,8 @@ impl Duplicate for Tree {
         Ok(Tree {
             nodes: self.nodes.copy()?,
             next: self.next,
-            kin: self.kin.copy()?,
-            ids: self.ids.copy()?,
+            kin: self.kin.clone()?,
+            ids: self.ids.clone()?,
             references: self.references,
             outline: self.outline.copy(self.alloc)?,
             alloc: self.alloc,
@@ -124,7 +125,7 @@ impl Tree {
         ensures { result ≡ serial_of (node_of self.now.nodes who.now) }
     {
         match who {
-            Who::Id(id) => self.ids.get(id.slice()),
+            Who::Id(id) => self.ids.as_ref().get(id.slice()),
             Who::Serial(serial) => Some(self.nodes.get(*serial)?.serial),
         }
     }
@@ -239,10 +240,12 @@ fn made(alloc: Global, doc: &Doc) -> Result<Tree, AllocError>
     let mut nodes = Nodes::new(alloc);
     let mut kin = Kin::new(alloc);
     take_in(&mut nodes, &mut kin, doc)?;
-    let ids = ids_of(alloc, doc)?;
+    let table = ids_of(alloc, doc)?;
+    let ids = Rc::new(alloc, table)?;
     let mut outline = Outline::new(alloc);
     outline.reserve(nodes.len())?;
     outline.refresh(&nodes, &kin);
+    let kin = Rc::new(alloc, kin)?;
     Ok(Tree {
         nodes,
         next: doc.next(),

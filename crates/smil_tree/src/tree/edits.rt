@@ -1,6 +1,6 @@
 //! Edits of a tree.
 
-ghost use Rattle.std.specs.Prelude.{◌≡◌, ℕ, List, true, None, Some, Ok, IsSome, OnOk, OnErr, IfErr, if◌then◌else◌};
+ghost use Rattle.std.specs.Prelude.{◌≡◌, ℕ, List, true, None, Some, Ok, IsSome, IfOk, OnOk, OnErr, IfErr, if◌then◌else◌};
 ghost use Rattle.std.specs.Str.{bytes_eq};
 ghost use Rattle.std.specs.Map.{lookup};
 ghost use Rattle.smil_model.specs.document.Document.{node_at, has_id};
@@ -13,9 +13,11 @@ ghost use Rattle.smil_tree.specs.Outcomes.{IsFaultOf, may_take, set_outcome};
 use super::Tree;
 use crate::fault::TreeFault;
 use crate::ids::{Ids, forget_node};
+use crate::outline::{reads, reads_name};
 use crate::references::{references_with, references_without};
-use smil_model::{Attr, AttrName, Bytes, Node, REFERENCES, references_in};
-use std::alloc::AllocError;
+use smil_model::{Attr, AttrName, Bytes, Duplicate, Node, REFERENCES, references_in};
+use std::alloc::{AllocError, Global};
+use std::rc::Rc;
 
 impl Tree {
     /// Gives a node an attribute, which fits its kind and its parent's kind. Refused where another
@@ -35,10 +37,13 @@ impl Tree {
         if REFERENCES < references {
             return Err(TreeFault::TooManyReferences);
         }
+        let differs = reads(&attr);
         let node = self.nodes.with_attr(serial, attr)?;
-        rename(&mut self.ids, self.nodes.get(serial).unwrap(), node.node())?;
+        let old = self.nodes.get(serial).unwrap();
+        let ids = renamed(self.alloc, &self.ids, old, node.node())?;
         self.nodes.replace(serial, node);
-        self.outline.refresh(&self.nodes, &self.kin);
+        self.outline.follow(&self.nodes, self.kin.as_ref(), differs);
+        self.ids = ids;
         self.references = references;
         Ok(())
     }
@@ -51,10 +56,13 @@ impl Tree {
         ensures err { OnErr result (self.new ≡ self.old) }
     {
         let references = self.references_unset(serial, name);
+        let differs = reads_name(name);
         let node = self.nodes.without_attr(serial, name)?;
-        rename(&mut self.ids, self.nodes.get(serial).unwrap(), node.node())?;
+        let old = self.nodes.get(serial).unwrap();
+        let ids = renamed(self.alloc, &self.ids, old, node.node())?;
         self.nodes.replace(serial, node);
-        self.outline.refresh(&self.nodes, &self.kin);
+        self.outline.follow(&self.nodes, self.kin.as_ref(), differs);
+        self.ids = ids;
         self.references = references;
         Ok(())
     }
@@ -63,7 +71,7 @@ impl Tree {
     fn takes_id(&self, serial: u32, attr: &Attr) -> bool
         ensures { result ≡ is_id_taken self.now.nodes serial (id_in attr.now) }
     {
-        let ids = &self.ids;
+        let ids = self.ids.as_ref();
         match attr {
             Attr::Id(id) => other_has(ids, serial, id.slice()),
             _ => false,
@@ -96,6 +104,34 @@ pub fn other_has(ids: &Ids, serial: u32, id: &[u8]) -> bool
     match ids.get(id) {
         Some(other) => other != serial,
         None => false,
+    }
+}
+
+// The table once another node stands in the place of a node, with its serial: the table itself
+// where the two have the same id, and else a new one.
+fn renamed(alloc: Global, ids: &Rc<Ids>, old: &Node, new: &Node) -> Result<Rc<Ids>, AllocError>
+    requires { (q : List ℕ) → bears q old.now ≡ true
+        → lookup (bytes_eq q) ids.now.value ≡ Some old.now.serial }
+    ensures { IfOk result (λ table. (q : List ℕ) → lookup (bytes_eq q) table.value
+        ≡ (if bears q new.now then Some old.now.serial else
+        (if bears q old.now then None else lookup (bytes_eq q) ids.now.value))) }
+{
+    if have_same_id(old, new) {
+        return Ok(ids.clone()?);
+    }
+    let mut table = ids.as_ref().copy()?;
+    rename(&mut table, old, new)?;
+    Ok(Rc::new(alloc, table)?)
+}
+
+// Whether two nodes have the same id, or none.
+fn have_same_id(old: &Node, new: &Node) -> bool
+    ensures { result ≡ true → old.now.attrs.id ≡ new.now.attrs.id }
+{
+    match (&old.attrs.id, &new.attrs.id) {
+        (None, None) => true,
+        (Some(one), Some(other)) => one.slice() == other.slice(),
+        _ => false,
     }
 }
 

@@ -27,7 +27,7 @@ impl Tree {
     pub fn children(&self, serial: u32) -> &[u32]
         ensures { result.now ≡ serials (children self.now.nodes serial) }
     {
-        self.kin.children(serial)
+        self.kin.as_ref().children(serial)
     }
 
     /// The serial of the priorityClass that a node is a child of; None exactly where its parent is

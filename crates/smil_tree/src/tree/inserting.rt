@@ -1,15 +1,17 @@
 //! A node put into a tree.
 
-ghost use Rattle.std.specs.Prelude.{◌≡◌, ℕ, suc, ◌+◌, ◌*◌, ◌<◌, ◌≤◌, List, [], length, true, insert, count_by, slice_get, Some, Ok, IfOk, IfErr, OnOk, OnErr};
+ghost use Rattle.std.specs.Prelude.{◌≡◌, ℕ, suc, ◌+◌, ◌*◌, ◌≤◌, List, [], length, true, insert, slice_get, Some, Ok, IfOk, IfErr, OnOk, OnErr, if◌then◌else◌};
+ghost use Rattle.std.specs.Map.{lookup};
+ghost use Rattle.std.specs.Str.{bytes_eq};
 ghost use Rattle.smil_model.specs.declared.limits.TheConstants.{ITEMS as the_items};
 ghost use Rattle.smil_model.specs.declared.document.Node.{Node as AnyNode};
-ghost use Rattle.smil_model.specs.document.Document.{Document};
+ghost use Rattle.smil_model.specs.document.Document.{Document, serial_of, time_parent as time_parent_in};
 ghost use Rattle.smil_model.specs.document.Edits.{children};
 ghost use Rattle.smil_model.specs.document.Valid.{IsValid, is_id_taken, references, references_among};
 ghost use Rattle.smil_laws.specs.Edited.{IsOrdered};
-ghost use Rattle.smil_tree.specs.Places.{cut};
-ghost use Rattle.smil_tree.specs.TreeFields.{bears, IsTableOf};
 ghost use Rattle.smil_tree.specs.Kin.{IsKinOf};
+ghost use Rattle.smil_tree.specs.Places.{cut};
+ghost use Rattle.smil_tree.specs.TreeFields.{bears};
 ghost use Rattle.smil_tree.specs.Outcomes.{IsFaultOf, and_after, insert_outcome, may_bear, room_outcome};
 
 use super::Tree;
@@ -17,11 +19,12 @@ use super::edits::other_has;
 use super::family::element_from;
 use super::spans::position_of_child;
 use crate::fault::TreeFault;
-use crate::ids::{Ids, forget_node, note_node};
+use crate::ids::{Ids, note_node};
 use crate::kin::Kin;
 use crate::nodes::Nodes;
-use smil_model::{Attrs, Kind, NODES, Node, REFERENCES, SERIALS, references_in};
-use std::alloc::AllocError;
+use smil_model::{Attrs, Duplicate, Kind, NODES, Node, REFERENCES, SERIALS, references_in};
+use std::alloc::{AllocError, Global};
+use std::rc::Rc;
 
 impl Tree {
     /// Inserts a node without children into a node, at a place among its children that is counted
@@ -47,7 +50,7 @@ impl Tree {
         self.may_insert(parent, place, kind)?;
         self.has_room(&attrs)?;
         let serial = self.next;
-        let at = position_of_child(&self.nodes, &self.kin, parent, place);
+        let at = position_of_child(&self.nodes, self.kin.as_ref(), parent, place);
         self.put(
             at,
             Node {
@@ -84,7 +87,7 @@ impl Tree {
         ensures { result ≡ is_id_taken self.now.nodes self.now.next attrs.now.id }
     {
         let next = self.next;
-        let ids = &self.ids;
+        let ids = self.ids.as_ref();
         match &attrs.id {
             Some(id) => other_has(ids, next, id.slice()),
             None => false,
@@ -102,38 +105,54 @@ impl Tree {
         ensures err { OnErr result (self.new ≡ self.old) }
     {
         let references = references_in(&node.attrs);
+        let parent = node.parent;
         self.outline.reserve(self.nodes.len() + 1)?;
+        let ids = with_node(self.alloc, &self.ids, &node)?;
         self.nodes.insert(at, node)?;
-        if let Err(fault) = take_note(&mut self.ids, &mut self.kin, &self.nodes, at) {
-            self.nodes.remove(at, at + 1);
-            return Err(fault);
-        }
-        self.outline.refresh(&self.nodes, &self.kin);
+        let time_parent = element_from(&self.nodes, parent);
+        let kin = match grown(self.alloc, &self.kin, &self.nodes, time_parent, at) {
+            Ok(kin) => kin,
+            Err(fault) => {
+                self.nodes.remove(at, at + 1);
+                return Err(fault);
+            }
+        };
+        self.outline.refresh(&self.nodes, kin.as_ref());
+        self.ids = ids;
+        self.kin = kin;
         self.references += references;
         self.next += 1;
         Ok(())
     }
 }
 
-// Notes the id and the kin of the node that was put in at a place and has no children.
-fn take_note(ids: &mut Ids, kin: &mut Kin, nodes: &Nodes, at: usize) -> Result<(), AllocError>
-    requires within { at < length nodes.now }
+// The kin with the node at a place among these nodes, which has this time parent and no children.
+fn grown(
+    alloc: Global,
+    kin: &Rc<Kin>,
+    nodes: &Nodes,
+    time_parent: Option<u32>,
+    at: usize,
+) -> Result<Rc<Kin>, AllocError>
+    requires kin { IsKinOf kin.now.value (cut at (at + 1) nodes.now) }
     requires ordered { IsOrdered nodes.now }
-    requires leaf { (n : AnyNode) → slice_get nodes.now at ≡ Some n
-        → children (cut at (at + 1) nodes.now) n.serial ≡ [] }
-    requires once { (q : List ℕ) → count_by (bears q) nodes.now ≤ 1 }
-    requires table { IsTableOf ids.old (cut at (at + 1) nodes.now) }
-    requires kin { IsKinOf kin.old (cut at (at + 1) nodes.now) }
-    ensures ok { OnOk result (IsTableOf ids.new nodes.now × IsKinOf kin.new nodes.now) }
-    ensures err { OnErr result (IsTableOf ids.new (cut at (at + 1) nodes.now)
-        × IsKinOf kin.new (cut at (at + 1) nodes.now)) }
+    requires leaf { (n : AnyNode) × (slice_get nodes.now at ≡ Some n)
+        × (children (cut at (at + 1) nodes.now) n.serial ≡ [])
+        × (time_parent ≡ serial_of (time_parent_in nodes.now n.serial)) }
+    ensures { IfOk result (λ grown. IsKinOf grown.value nodes.now) }
 {
-    let node = nodes.at(at).unwrap();
-    note_node(ids, node)?;
-    let time_parent = element_from(nodes, node.parent);
-    if let Err(fault) = kin.grow(nodes, time_parent, at) {
-        forget_node(ids, node);
-        return Err(fault);
-    }
-    Ok(())
+    let mut grown = kin.as_ref().copy()?;
+    grown.grow(nodes, time_parent, at)?;
+    Ok(Rc::new(alloc, grown)?)
+}
+
+// A table with the id of one more node, if it has one.
+fn with_node(alloc: Global, ids: &Rc<Ids>, node: &Node) -> Result<Rc<Ids>, AllocError>
+    ensures { IfOk result (λ table. (q : List ℕ) → lookup (bytes_eq q) table.value
+        ≡ (if bears q node.now then Some node.now.serial
+        else lookup (bytes_eq q) ids.now.value)) }
+{
+    let mut table = ids.as_ref().copy()?;
+    note_node(&mut table, node)?;
+    Ok(Rc::new(alloc, table)?)
 }

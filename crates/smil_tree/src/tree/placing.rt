@@ -35,7 +35,7 @@ impl Tree {
         let parent = Parent {
             nodes: &self.nodes,
             kind: node.kind,
-            children: self.kin.children(parent),
+            children: self.kin.as_ref().children(parent),
         };
         if may_place(&parent, place, kind) {
             Ok(())

@@ -3,8 +3,8 @@ use Rattle.std.specs.Prelude.{slice_get}
 use Rattle.smil_model.specs.document.Document.{Document}
 use Rattle.smil_model.specs.document.Edits.{children, child_place}
 use Rattle.smil_model.specs.document.Valid.{IsValid}
-use Rattle.smil_tree.specs.Outcomes.{IsFaultOf, insert_outcome}
-use Rattle.smil_tree.proofs.InsertRefusals.{few_among, fault_of, after, place_within, long_after, more_after, valid_after, outcome_is}
+use Rattle.smil_tree.specs.Outcomes.{IsFaultOf, insert_outcome, may_bear}
+use Rattle.smil_tree.proofs.InsertRefusals.{bearer_known, few_among, fault_of, after, place_within, long_after, more_after, valid_after, outcome_is}
 use Rattle.smil_tree.proofs.ResultClauses.{on_err}
 use Rattle.smil_tree.proofs.tree.Tree.insert.Goals as goal
 
@@ -55,3 +55,7 @@ returns-clause-ok c =
     ∙ ap (λ s. Ok (record { nodes = insert c.args.self.now.nodes (child_place c.args.self.now.nodes c.args.parent (slice_get (children c.args.self.now.nodes c.args.parent) (c.args.place - 1))) (record { serial = s; kind = c.args.kind; parent = c.args.parent; attrs = c.args.attrs }); next = suc c.args.self.now.next })) (sym serial)
     ∙ ap (λ k. Ok (record { nodes = insert c.args.self.now.nodes k (record { serial = c.self.inside.next; kind = c.args.kind; parent = c.args.parent; attrs = c.args.attrs }); next = suc c.args.self.now.next })) (sym at)
     ∙ ap Ok (sym c.in_ok-put.ensures.ok)
+
+pub position_of_child-at-requires-clause-known : goal.position_of_child-at-requires-clause-known
+position_of_child-at-requires-clause-known c =
+    bearer_known c.self.inside.nodes c.args.parent c.args.kind c.args.attrs (ap (λ (d : Document). may_bear d.nodes c.args.parent c.args.kind c.args.attrs) c.self.view_is ∙ c.requires)
