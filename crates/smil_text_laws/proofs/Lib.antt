@@ -1,0 +1,9 @@
+pub mod BareLists
+pub mod BareDocuments
+pub mod BareHistories
+pub mod BareIntervals
+pub mod BareHappenings
+pub mod BareViews
+pub mod BareReaches
+pub mod BareSame
+pub mod BarePresentations
