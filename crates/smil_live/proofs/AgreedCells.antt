@@ -1,6 +1,6 @@
 -- Cells that go on with an edited document from the part of the diary that stays, and how often
 -- edits and backward seeks have intervals evaluated.
-use Rattle.std.proofs.Common.{◌≡◌, refl, sym, ◌∙◌, ap, subst, ℕ, ◌+◌, ◌≤◌, ◌++◌, List, length, take, drop, ℤ, negsuc, Bool, true, Result, Ok, Err, arith}
+use Rattle.std.proofs.Common.{◌≡◌, refl, sym, ◌∙◌, ap, subst, ℕ, ◌+◌, ◌≤◌, ◌++◌, List, length, take, drop, ℤ, negsuc, Bool, true, false, Result, Ok, Err, arith}
 use Rattle.std.specs.Prelude.{IfErr, OnOk, filter, int_le, nat_abs, nat_lt, pos, ◌<ℤ◌, ◌≤ℤ◌}
 use Rattle.std.proofs.lemmas.Bool.{lt-ltb}
 use Rattle.std.proofs.lemmas.Int.{ints}
@@ -21,14 +21,15 @@ use Rattle.smil_live.specs.Counted.{IsAtLeast, IsAtMost, KeepsToCounts, IsFree}
 use Rattle.smil_live.specs.Counts.{diary_at, least_between, least_editing, least_loading, least_seeking, most_between, most_number, most_seeking, reached_behind, told_where}
 use Rattle.smil_live.specs.Editing.{IsEdited, edit_of}
 use Rattle.smil_shown.specs.ShownViews.{IsPlaying}
+use Rattle.smil_live.specs.Kept.{IsKept}
 use Rattle.smil_live.specs.Moves.{IsReplayed, IsTooFull, IsUnderWay, edited_to, sought_of}
 use Rattle.smil_shown.specs.ViewTable.{ViewLists}
-use Rattle.smil_live.specs.Sites.{IsMade, most_resolving, site_of, staying}
+use Rattle.smil_live.specs.Sites.{IsMade, most_resolving, site_of}
 use Rattle.smil_live.specs.Telling.{is_edit}
 use Rattle.smil_live.specs.declared.edits.Site.{Site}
-use Rattle.smil_live.proofs.AgreedParts.{staying_part, staying_within}
 use Rattle.smil_live.proofs.CountedOrders.{at_least, at_most, free_too_full}
 use Rattle.smil_live.proofs.EditedPresentations.{edited_accepted, edited_appended, edited_state, not_edited}
+use Rattle.smil_live.proofs.KeptEntries.{kept_part, kept_reached, kept_within}
 use Rattle.smil_shown.proofs.SettledDiaries.{diary_is}
 use Rattle.smil_live.proofs.LogParts.{log_parts}
 use Rattle.smil_live.proofs.OrderOutcomes.{clock_from, sought_state}
@@ -42,14 +43,14 @@ own_replayed s shown is = record { presentation_is = refl; sound = is.shown_is.s
 -- ---- an edit
 
 -- what plays a presentation, an edit of its document, a copy of what the edit makes, and how many
--- entries stay by it
+-- entries are kept by it
 pub record IsEditedAt (s : CellsState) (shown : ViewLists) (p : Presentation) (d e : Document) (at : Site) (len : ℕ) : Type 0 where
   pub is : IsPlaying s shown
   pub view : s.presentation ≡ p
   pub same : d ≡ e
   pub valid : IsValid d
   pub made : IsMade p.document at e
-  pub count : len ≡ staying p e at
+  pub count : IsKept p e at len
 
 module _ {s : CellsState} {shown : ViewLists} {p : Presentation} {d e : Document} {at : Site} {len : ℕ} (edit : IsEditedAt s shown p d e at len) where
   pub edited_is : edited_to s.presentation d ≡ edited_to p e
@@ -61,18 +62,14 @@ module _ {s : CellsState} {shown : ViewLists} {p : Presentation} {d e : Document
   made_here : IsMade s.presentation.document at d
   made_here = subst (λ (q : Presentation). IsMade q.document at d) (sym edit.view) (subst (λ (x : Document). IsMade p.document at x) (sym edit.same) edit.made)
 
-  count_here : len ≡ staying s.presentation d at
-  count_here = edit.count ∙ (ap (λ (x : Document). staying p x at) (sym edit.same) ∙ ap (λ (q : Presentation). staying q d at) (sym edit.view))
+  count_here : IsKept s.presentation d at len
+  count_here = subst (λ (q : Presentation). IsKept q d at len) (sym edit.view) (subst (λ (x : Document). IsKept p x at len) (sym edit.same) edit.count)
 
   part : IsPart d.nodes s.presentation.log (take len s.diary) s.presentation.now
-  part =
-      subst (λ (n : ℕ). IsPart d.nodes s.presentation.log (take n s.diary) s.presentation.now) (sym count_here)
-      (staying_part s.presentation d at s.diary edit.is.shown_is.state.document.numbered edit.valid.numbered edit.is.shown_is.state.log made_here edit.is.shown_is.settled)
+  part = kept_part s.presentation d at s.diary edit.is.shown_is.state.document.numbered edit.valid.numbered edit.is.shown_is.state.log made_here edit.is.shown_is.settled len count_here
 
   within : len ≤ length s.diary
-  within =
-      subst (λ (n : ℕ). n ≤ length s.diary) (sym count_here)
-      (staying_within s.presentation d at s.diary edit.is.shown_is.state.document.numbered edit.valid.numbered edit.is.shown_is.state.log made_here edit.is.shown_is.settled)
+  within = kept_within s.presentation d at s.diary edit.is.shown_is.state.document.numbered edit.valid.numbered edit.is.shown_is.state.log made_here edit.is.shown_is.settled len count_here
 
   pub edited_rebuild : MayRebuild s d len
   edited_rebuild = may_rebuild s d len s.presentation.now edit.valid within edit.is.unmarked part
@@ -80,10 +77,15 @@ module _ {s : CellsState} {shown : ViewLists} {p : Presentation} {d e : Document
   pub edited_way : (t : CellsState) → IsRebuilt s d len t → IsUnderWay (edited_to s.presentation d) (length t.presentation.log) t
   edited_way t rebuilt = rebuilt_way s t d len s.presentation.now rebuilt part (edited_to s.presentation d) refl refl refl
 
-  pub edited_count : length (elements d.nodes) + reached_behind len (edited_to s.presentation d) ≡ most_resolving p at e
+  pub edited_count : length (elements d.nodes) + reached_behind len (edited_to s.presentation d) ≤ most_resolving p at e
   edited_count =
-      ap (λ (x : Document). length (elements x.nodes) + reached_behind len (edited_to s.presentation d)) edit.same
-      ∙ (ap (λ (q : Presentation). length (elements e.nodes) + reached_behind len q) edited_is ∙ ap (λ (n : ℕ). length (elements e.nodes) + reached_behind n (edited_to p e)) edit.count)
+      let number : length (elements d.nodes) + reached_behind len (edited_to s.presentation d) ≡ length (elements e.nodes) + reached_behind len (edited_to p e) = ap (λ (x : Document). length (elements x.nodes) + reached_behind len (edited_to s.presentation d)) edit.same ∙ ap (λ (q : Presentation). length (elements e.nodes) + reached_behind len q) edited_is in
+      omega (arith, number, kept_reached p e at len edit.count)
+
+-- no more than a number that is not greater
+pub told_more : (counts : Bool) (rise n m : ℕ) → n ≤ m → WhereTold counts (rise ≤ n) → WhereTold counts (rise ≤ m)
+told_more false rise n m l h = tt
+told_more true rise n m l h = omega (arith, l, h)
 
 -- ---- how often an edit has intervals evaluated
 

@@ -1,6 +1,6 @@
 -- What an edited presentation comes to.
 use Rattle.std.proofs.Common.{◌≡◌, ℕ, ℤ, List, ◌++◌, length, drop, true, not, Some, Result, Ok, Err, refl, sym, ap, ◌∙◌, subst, append_assoc}
-use Rattle.std.specs.Prelude.{pos, flat_map, filter, is_some, is_err, IsSome, IfOk, IfErr, OnErr, OnOk}
+use Rattle.std.specs.Prelude.{pos, flat_map, filter, is_some, is_err, IsSome, OnErr, OnOk}
 use Rattle.std.proofs.Math.Seq.{drop-append_seam}
 use Rattle.smil_model.specs.declared.document.Node.{Node}
 use Rattle.smil_model.specs.declared.order.Order.{Order}
@@ -47,11 +47,9 @@ edit_there p d named s next valid same h =
     ∙ sym (ap (λ (e : Document). next e h.0) same)
     ∙ sym (at_there d.nodes s (next d) h.0 (node_known p d named s valid same h))
 
-pub edit_ok : (r x y : Result Document Refusal) → x ≡ y → IfOk r (λ (e : Document). y ≡ Ok e) → IfOk r (λ (e : Document). x ≡ Ok e)
-edit_ok r x y same h = subst (λ (z : Result Document Refusal). IfOk r (λ (e : Document). z ≡ Ok e)) (sym same) h
-
-pub edit_err : (r x y : Result Document Refusal) → x ≡ y → IfErr r (IsRefusedBy y) → IfErr r (IsRefusedBy x)
-edit_err r x y same h = subst (λ (z : Result Document Refusal). IfErr r (IsRefusedBy z)) (sym same) h
+-- what refuses one refuses the other
+pub refused_at : (x y : Result Document Refusal) (e : Refusal) → x ≡ y → IsRefusedBy y e → IsRefusedBy x e
+refused_at x y e same refused = subst (λ (r : Result Document Refusal). IsRefusedBy r e) (sym same) refused
 
 -- ---- the answer
 

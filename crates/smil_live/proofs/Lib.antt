@@ -2,12 +2,14 @@ pub mod AgreedCells
 pub mod AgreedEdits
 pub mod AgreedParts
 pub mod AgreedReferences
+pub mod AnsweredOrders
 pub mod CellCounts
 pub mod CountedOrders
 pub mod EditOrders
 pub mod EditedPresentations
 pub mod FullDiaries
 pub mod GrowingTexts
+pub mod KeptEntries
 pub mod LogParts
 pub mod MadeMoves
 pub mod MomentsPassed

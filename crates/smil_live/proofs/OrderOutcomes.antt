@@ -32,7 +32,7 @@ use Rattle.smil_model.specs.shown.Answers.{Refuses}
 use Rattle.smil_model.specs.shown.Orders.{IsState, Presentation, and_then, at_moment_with, changes_between, changes_through, course_of, found, kept_where, node_of, outcome, unless, unless_too_full, with_logged as logged_within, as_of}
 use Rattle.smil_report.specs.Tellings.{Telling, Tells, change_told, gone_told, nodes_gone, order_told}
 use Rattle.smil_grammar.specs.Formats.{formats}
-use Rattle.smil_model.proofs.NumberOrders.{le_from}
+use Rattle.smil_model.proofs.NumberOrders.{is_le, le_from}
 use Rattle.smil_laws.proofs.AsideDocuments.{find_each}
 use Rattle.smil_tree.proofs.NodeSpans.{all_known}
 use Rattle.smil_cells.specs.CellsState.{CellsState, with_logged}
@@ -184,6 +184,15 @@ module _ {I : Type 0} (tell : Telling I) where
   advanced_to p q by to old new from there is state' some told =
       let sums = moved_by p.now by to from there in
       advanced_by p q by old new (is ∙ ap (as_of p) sums.0) state' some (told ∙ ap (λ (k : ℕ). old ++ told_of tell p (changes_through p k)) sums.1)
+
+-- a later moment that is too full
+pub not_advanced : (p : Presentation) (by to : ℤ) (given : Refusal) → pos 0 ≤ℤ by → to ≡ pos p.now +ℤ by → to ≤ℤ HORIZON → IsTooFull (as_of p (nat_abs to)) given → Refuses formats p (order.Advance by) given
+not_advanced p by to given from there most (inl memory) = inl memory
+not_advanced p by to given from there most (inr (full, none)) =
+    let m = p.now + nat_abs by in
+    let sums = moved_by p.now by to from there in
+    let within : int_le (pos m) HORIZON ≡ true = is_le (pos m) HORIZON (omega (arith, ints, from, there, most)) in
+    inr (at_moment_full p m p.log within (subst (λ (k : ℕ). diary_of (course_of (as_of p k)) ≡ None) sums.0 none) ∙ ap Err (sym full))
 
 -- a log of which no entry is later is left whole
 all_left : (m : ℤ) (log : List LogEntry) → is_logged_by m log ≡ true → filter (λ (x : LogEntry). int_le x.moment m) log ≡ log

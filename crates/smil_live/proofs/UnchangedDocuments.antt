@@ -15,6 +15,8 @@ use Rattle.smil_model.specs.happening.Resolution.{diary_of}
 use Rattle.smil_model.specs.shown.Orders.{IsState, Presentation, at_moment, course_of}
 use Rattle.smil_laws.specs.Edited.{Edit, edited, edited_node, inserts, removes, sets, unsets}
 use Rattle.smil_laws.proofs.NumberedTrees.{ordered}
+use Rattle.smil_text_laws.specs.PlainTexts.{DifferInTexts, bare, without_texts}
+use Rattle.smil_text_laws.proofs.BareLists.{map_append}
 use Rattle.smil_report.specs.Tellings.{Telling, gone_told}
 use Rattle.smil_grammar.specs.Formats.{formats}
 use Rattle.smil_tree.specs.Places.{with_attrs}
@@ -62,6 +64,18 @@ same_attrs change before s old new numbered at there same =
     let a = around change s before.nodes old numbered.distinct at in
     ap (λ (ns : List Node). record before { nodes = ns }) (a.after ∙ (ap (λ (n : Node). a.front ++ n ∷ a.back) node ∙ sym a.before))
 
+-- where its plain texts alone are others, the documents differ in these alone
+other_texts : (change : Attrs → Attrs) (before : Document) (s : ℕ) (old new : Node) → IsNumberedTree before → node_at before.nodes s ≡ Some old
+    → node_at (changed_at change s before.nodes) s ≡ Some new → new.attrs ≡ record old.attrs { texts = new.attrs.texts } → DifferInTexts before.nodes (changed_at change s before.nodes)
+other_texts change before s old new numbered at there same =
+    let one : with_attrs change old ≡ new = some_node (with_attrs change old) new (sym (changed_node change s before.nodes old at) ∙ there) in
+    let node : without_texts old ≡ without_texts (with_attrs change old) = sym (ap (λ (a : Attrs). without_texts (record old { attrs = a })) (ap (λ (n : Node). n.attrs) one ∙ same)) in
+    let a = around change s before.nodes old numbered.distinct at in
+    ap bare a.before
+    ∙ (map_append without_texts a.front (old ∷ a.back)
+    ∙ (ap (λ (n : Node). bare a.front ++ n ∷ bare a.back) node
+    ∙ (sym (map_append without_texts a.front (with_attrs change old ∷ a.back)) ∙ sym (ap bare a.after))))
+
 -- ---- a node that is taken away
 
 own_within : (before : Document) (s : ℕ) (old : Node) → IsNumberedTree before → node_at before.nodes s ≡ Some old → is_within before.nodes s s ≡ true
@@ -86,23 +100,38 @@ not_left u s (m ∷ ns) n passes at = by_left (not (u m.serial)) refl at (not_le
 
 -- ---- an edit of a node
 
-pub stays : (before after : Document) (s : ℕ) (old new : Node) → IsNumberedTree before → IsMade before (site.Old s) after → node_at before.nodes s ≡ Some old → node_at after.nodes s ≡ Some new
-    → new.attrs ≡ old.attrs → after ≡ before
-stays before after s old new numbered made at there same = by_edit made.edit made.document_is made.serial_is made.next_is
+-- a change of the attributes of one node
+record IsChanged (before after : Document) (s : ℕ) : Type 0 where
+  change : Attrs → Attrs
+  is : record before { nodes = changed_at change s before.nodes } ≡ after
+
+-- an edit of a node that is there before and after
+changed : (before after : Document) (s : ℕ) (old new : Node) → IsNumberedTree before → IsMade before (site.Old s) after → node_at before.nodes s ≡ Some old → node_at after.nodes s ≡ Some new → IsChanged before after s
+changed before after s old new numbered made at there = by_edit made.edit made.document_is made.serial_is made.next_is
   where
-    by_edit : (e : Edit) → edited before e ≡ after → edited_node before e ≡ s → after.next ≡ before.next → after ≡ before
-    by_edit (sets x given) is serial next =
-        let here : edited before (sets s given) ≡ after = ap (λ (k : ℕ). edited before (sets k given)) (sym serial) ∙ is in
-        sym here ∙ same_attrs (λ attrs. with_attr attrs given) before s old new numbered at (ap (λ (d : Document). node_at d.nodes s) here ∙ there) same
-    by_edit (unsets x given) is serial next =
-        let here : edited before (unsets s given) ≡ after = ap (λ (k : ℕ). edited before (unsets k given)) (sym serial) ∙ is in
-        sym here ∙ same_attrs (λ attrs. without_attr attrs given) before s old new numbered at (ap (λ (d : Document). node_at d.nodes s) here ∙ there) same
+    by_edit : (e : Edit) → edited before e ≡ after → edited_node before e ≡ s → after.next ≡ before.next → IsChanged before after s
+    by_edit (sets x given) is serial next = record { change = λ attrs. with_attr attrs given; is = ap (λ (k : ℕ). edited before (sets k given)) (sym serial) ∙ is }
+    by_edit (unsets x given) is serial next = record { change = λ attrs. without_attr attrs given; is = ap (λ (k : ℕ). edited before (unsets k given)) (sym serial) ∙ is }
     by_edit (inserts under place kind attrs) is serial next =
         let more : suc before.next ≡ after.next = ap (λ (d : Document). d.next) is in
         absurd (omega (arith, more, next))
     by_edit (removes x) is serial next =
         let here : edited before (removes s) ≡ after = ap (λ (k : ℕ). edited before (removes k)) (sym serial) ∙ is in
         absurd (not_left (is_within before.nodes s) s before.nodes new (own_within before s old numbered at) (ap (λ (d : Document). node_at d.nodes s) here ∙ there))
+
+pub stays : (before after : Document) (s : ℕ) (old new : Node) → IsNumberedTree before → IsMade before (site.Old s) after → node_at before.nodes s ≡ Some old → node_at after.nodes s ≡ Some new
+    → new.attrs ≡ old.attrs → after ≡ before
+stays before after s old new numbered made at there same =
+    let to = changed before after s old new numbered made at there in
+    sym to.is ∙ same_attrs to.change before s old new numbered at (ap (λ (d : Document). node_at d.nodes s) to.is ∙ there) same
+
+-- where its plain texts alone are others, so it is of the documents
+pub differ : (before after : Document) (s : ℕ) (old new : Node) → IsNumberedTree before → IsMade before (site.Old s) after → node_at before.nodes s ≡ Some old → node_at after.nodes s ≡ Some new
+    → new.attrs ≡ record old.attrs { texts = new.attrs.texts } → DifferInTexts before.nodes after.nodes
+differ before after s old new numbered made at there same =
+    let to = changed before after s old new numbered made at there in
+    other_texts to.change before s old new numbered at (ap (λ (d : Document). node_at d.nodes s) to.is ∙ there) same
+    ∙ ap (λ (d : Document). bare d.nodes) to.is
 
 -- ---- what is told of it, and how often it has intervals evaluated
 

@@ -1,9 +1,11 @@
+pub mod Answered
 pub mod Counted
 pub mod Counts
 pub mod Editing
 pub mod Moves
 pub mod Recorded
 pub mod Sites
+pub mod Kept
 pub mod Sought
 pub mod Telling
 pub mod WorkedCounts

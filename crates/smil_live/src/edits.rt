@@ -8,28 +8,31 @@ ghost use Rattle.smil_model.specs.shown.Answers.{IsGiven, IsRefusedBy, Refuses};
 ghost use Rattle.smil_model.specs.shown.Orders.{IsState, changes_between, node_of};
 ghost use Rattle.smil_grammar.specs.Formats.{formats};
 ghost use Rattle.smil_graph.specs.Graph.{document_of};
+ghost use Rattle.smil_graph.specs.Reduced.{all_reduced};
 ghost use Rattle.smil_report.specs.Tellings.{Begins, Tells, gone_told};
 ghost use Rattle.smil_cells.specs.CellsState.{WhereTold};
 ghost use Rattle.smil_live.specs.Counted.{KeepsToCounts};
 ghost use Rattle.smil_live.specs.Counts.{agreed_under, least_editing, least_loading, serial_or_0};
 ghost use Rattle.smil_live.specs.Editing.{IsEdited, edit_of};
 ghost use Rattle.smil_shown.specs.ShownViews.{IsPlaying};
+ghost use Rattle.smil_live.specs.Kept.{IsKept};
 ghost use Rattle.smil_live.specs.Moves.{IsReplayed, IsTooFull, edited_to, told_of};
 ghost use Rattle.smil_revision.specs.References.{keeps_references};
+ghost use Rattle.smil_text_laws.specs.PlainTexts.{DifferInTexts};
 ghost use Rattle.smil_live.specs.Sites.{IsMade, most_resolving, site_nodes, site_serial, staying};
 
 use super::presentation::PresentationOver;
 use super::replay::{cells_with, diary_through};
 use smil_cells::{Cells, Table};
 use smil_diary::Book;
-use smil_graph::Graph;
+use smil_graph::Revised;
 use smil_instances::parent_of;
 use smil_interval::Steps;
 use smil_model::{GrowingList, Refusal, Who};
 use smil_report::ChangeItem;
 use smil_revision::{
-    Child, LineText, Revision, Setting, have_same_attrs, keeps_references, with_child, with_value,
-    without_name, without_node,
+    Child, LineText, Revision, Setting, agree_but_for_texts, have_same_attrs, keeps_references,
+    with_child, with_value, without_name, without_node,
 };
 use smil_shown::{Scene, ViewTable, put_all_gone, put_differences};
 use smil_tree::Tree;
@@ -42,6 +45,13 @@ use std::sync::ledger::Ledger;
 pub(crate) enum Site {
     Old(u32),
     New,
+}
+
+/// An edited copy of a document, with the place of the edit.
+#[derive(Drop)]
+pub(crate) struct EditedCopy {
+    pub tree: Tree,
+    pub site: Site,
 }
 
 impl<T: Table> PresentationOver<T> {
@@ -71,8 +81,7 @@ impl<T: Table> PresentationOver<T> {
             setting.entry.attr.column setting.entry.value.column) result (steps.new - steps.old) }
     {
         let edited = self.set_copy(who, setting)?;
-        let site = self.site(who);
-        self.take_edited(edited, site, out, steps)
+        self.take_edited(edited, out, steps)
     }
 
     /// Takes an attribute of a node away. The refusals are those of the node, of the name, and that
@@ -99,8 +108,7 @@ impl<T: Table> PresentationOver<T> {
             (steps.new - steps.old) }
     {
         let edited = self.unset_copy(who, attr)?;
-        let site = self.site(who);
-        self.take_edited(edited, site, out, steps)
+        self.take_edited(edited, out, steps)
     }
 
     /// Inserts a node into another at a place. The refusals are those of the parent, of the line's
@@ -128,7 +136,7 @@ impl<T: Table> PresentationOver<T> {
             child.entry.line.text.now child.entry.line.column) result (steps.new - steps.old) }
     {
         let edited = self.insert_copy(who, child)?;
-        self.take_edited(edited, Site::New, out, steps)
+        self.take_edited(edited, out, steps)
     }
 
     /// Removes a node with all below it. The refusals are those of the node, `Root`, and that of a
@@ -151,17 +159,18 @@ impl<T: Table> PresentationOver<T> {
             (steps.new - steps.old) }
     {
         let edited = self.remove_copy(who)?;
-        let site = self.site(who);
-        self.take_edited(edited, site, out, steps)
+        self.take_edited(edited, out, steps)
     }
 
     // The document with an attribute of a node set.
-    fn set_copy(&self, who: &Who, setting: Setting<'_>) -> Result<Tree, Refusal>
+    fn set_copy(&self, who: &Who, setting: Setting<'_>) -> Result<EditedCopy, Refusal>
         requires { IsGiven (order.Set who.now setting.attr.text.now setting.value.text.now
             setting.attr.column setting.value.column) }
         ensures ok { IfOk result (λ edited. edit_of self.now
             (order.Set who.now setting.entry.attr.text.now setting.entry.value.text.now
-            setting.entry.attr.column setting.entry.value.column) ≡ Ok edited) }
+            setting.entry.attr.column setting.entry.value.column) ≡ Ok edited.tree) }
+        ensures site { IfOk result (λ edited. edited.site
+            ≡ Site.Old (serial_or_0 (node_of self.now.document.nodes who.now))) }
         ensures err { IfErr result (IsRefusedBy (edit_of self.now
             (order.Set who.now setting.entry.attr.text.now setting.entry.value.text.now
             setting.entry.attr.column setting.entry.value.column))) }
@@ -169,30 +178,41 @@ impl<T: Table> PresentationOver<T> {
         let tree = self.viewer.cells.tree();
         tree.valid();
         let serial = self.node(who)?;
-        with_value(self.alloc, tree, serial, setting)
+        let copy = with_value(self.alloc, tree, serial, setting)?;
+        Ok(EditedCopy {
+            tree: copy,
+            site: Site::Old(serial),
+        })
     }
 
     // The document with an attribute of a node absent.
-    fn unset_copy(&self, who: &Who, attr: LineText<'_>) -> Result<Tree, Refusal>
+    fn unset_copy(&self, who: &Who, attr: LineText<'_>) -> Result<EditedCopy, Refusal>
         requires { IsGiven (order.Unset who.now attr.text.now attr.column) }
         ensures ok { IfOk result (λ edited. edit_of self.now
-            (order.Unset who.now attr.entry.text.now attr.entry.column) ≡ Ok edited) }
+            (order.Unset who.now attr.entry.text.now attr.entry.column) ≡ Ok edited.tree) }
+        ensures site { IfOk result (λ edited. edited.site
+            ≡ Site.Old (serial_or_0 (node_of self.now.document.nodes who.now))) }
         ensures err { IfErr result (IsRefusedBy
             (edit_of self.now (order.Unset who.now attr.entry.text.now attr.entry.column))) }
     {
         let tree = self.viewer.cells.tree();
         tree.valid();
         let serial = self.node(who)?;
-        without_name(tree, serial, attr)
+        let copy = without_name(tree, serial, attr)?;
+        Ok(EditedCopy {
+            tree: copy,
+            site: Site::Old(serial),
+        })
     }
 
     // The document with one more node.
-    fn insert_copy(&self, who: &Who, child: Child<'_>) -> Result<Tree, Refusal>
+    fn insert_copy(&self, who: &Who, child: Child<'_>) -> Result<EditedCopy, Refusal>
         requires { IsGiven
             (order.Insert who.now child.place child.line.text.now child.line.column) }
         ensures ok { IfOk result (λ edited. edit_of self.now
             (order.Insert who.now child.entry.place child.entry.line.text.now
-            child.entry.line.column) ≡ Ok edited) }
+            child.entry.line.column) ≡ Ok edited.tree) }
+        ensures site { IfOk result (λ edited. edited.site ≡ Site.New) }
         ensures err { IfErr result (IsRefusedBy (edit_of self.now
             (order.Insert who.now child.entry.place child.entry.line.text.now
             child.entry.line.column))) }
@@ -200,56 +220,57 @@ impl<T: Table> PresentationOver<T> {
         let tree = self.viewer.cells.tree();
         tree.valid();
         let parent = self.node(who)?;
-        with_child(self.alloc, tree, parent, child)
+        let copy = with_child(self.alloc, tree, parent, child)?;
+        Ok(EditedCopy {
+            tree: copy,
+            site: Site::New,
+        })
     }
 
     // The document without a node and all below it.
-    fn remove_copy(&self, who: &Who) -> Result<Tree, Refusal>
-        ensures ok { IfOk result (λ edited. edit_of self.now (order.Remove who.now) ≡ Ok edited) }
+    fn remove_copy(&self, who: &Who) -> Result<EditedCopy, Refusal>
+        ensures ok { IfOk result
+            (λ edited. edit_of self.now (order.Remove who.now) ≡ Ok edited.tree) }
+        ensures site { IfOk result (λ edited. edited.site
+            ≡ Site.Old (serial_or_0 (node_of self.now.document.nodes who.now))) }
         ensures err { IfErr result (IsRefusedBy (edit_of self.now (order.Remove who.now))) }
     {
         let tree = self.viewer.cells.tree();
         tree.valid();
         let serial = self.node(who)?;
-        without_node(tree, serial)
-    }
-
-    // The site of an edit of the node that an order names: its serial, or 0, which is no node's,
-    // where there is none.
-    fn site(&self, who: &Who) -> Site
-        ensures { result ≡ Site.Old (serial_or_0 (node_of self.now.document.nodes who.now)) }
-    {
-        match self.viewer.cells.tree().find(who) {
-            Some(serial) => Site::Old(serial),
-            None => Site::Old(0),
-        }
+        let copy = without_node(tree, serial)?;
+        Ok(EditedCopy {
+            tree: copy,
+            site: Site::Old(serial),
+        })
     }
 
     // Resolves an edited document with the same log from the part of the diary that stays, tells
     // what is gone and what has changed, and goes on with it; nothing where it is as it was.
     fn take_edited<I: ChangeItem, L: Ledger>(
         &mut self,
-        edited: Tree,
-        site: Site,
+        edited: EditedCopy,
         out: &mut GrowingList<I>,
         steps: &mut Steps<L>,
     ) -> Result<(), Refusal>
-        requires { IsMade self.old.document site edited }
-        ensures ok { OnOk result (IsEdited I.telling self.old edited self.new out.old out.new) }
-        ensures refused { IfErr result (IsTooFull (edited_to self.old edited)) }
+        requires { IsMade self.old.document edited.site edited.tree }
+        ensures ok { OnOk result
+            (IsEdited I.telling self.old edited.tree self.new out.old out.new) }
+        ensures refused { IfErr result (IsTooFull (edited_to self.old edited.tree)) }
         ensures kept { OnErr result (self.new ≡ self.old) }
         ensures text { OnErr result (out.new ≡ out.old) }
         ensures counted { steps.old ≤ steps.new }
         ensures most { OnOk result (WhereTold T.counts
-            (steps.new - steps.old ≤ most_resolving self.old site edited)) }
+            (steps.new - steps.old ≤ most_resolving self.old edited.site edited.tree)) }
         ensures least { OnOk result (WhereTold T.counts
-            (least_editing self.old (edited_to self.old edited) ≤ steps.new - steps.old)) }
+            (least_editing self.old (edited_to self.old edited.tree) ≤ steps.new - steps.old)) }
     {
-        if self.stays_by(&edited, site) {
+        let EditedCopy { tree, site } = edited;
+        if self.stays_by(&tree, site) {
             self.settled();
             return Ok(());
         }
-        let mut cells = self.edited_cells(edited, site, steps)?;
+        let mut cells = self.edited_cells(tree, site, steps)?;
         self.take_over(&mut cells, out)
     }
 
@@ -310,32 +331,64 @@ impl<T: Table> PresentationOver<T> {
             (least_loading (edited_to self.now edited) ≤ steps.new - steps.old)) }
     {
         edited.valid();
-        let graph = self.viewer.cells.past().graph().revised(edited)?;
-        let len = self.staying(&graph, site)?;
-        cells_with(&self.viewer.cells, graph, len, steps)
+        let revised = self.viewer.cells.past().graph().revised(edited)?;
+        let len = self.entries_kept(&revised, site)?;
+        cells_with(&self.viewer.cells, revised.graph, len, steps)
+    }
+
+    // How many entries of the diary are kept by an edit, unless memory runs out: all where it
+    // changes plain texts alone, and else those that stay.
+    fn entries_kept(&self, revised: &Revised, site: Site) -> Result<usize, AllocError>
+        requires made { IsMade self.now.document site (document_of revised.now.graph) }
+        requires alike { revised.now.alike ≡ true
+            → all_reduced self.now.document.nodes ≡ all_reduced revised.now.graph.nodes }
+        ensures { IfOk result (IsKept self.now (document_of revised.now.graph) site) }
+    {
+        if self.changes_texts_alone(revised.graph.tree(), site) {
+            return Ok(self.viewer.cells.book().len());
+        }
+        self.staying(revised, site)
+    }
+
+    // Whether an edit changes plain texts alone, on which no time depends.
+    fn changes_texts_alone(&self, edited: &Tree, site: Site) -> bool
+        requires { IsMade self.now.document site edited.now }
+        ensures { result ≡ true → DifferInTexts self.now.document.nodes edited.now.nodes }
+    {
+        match site {
+            Site::Old(serial) => agree_but_for_texts(self.viewer.cells.tree(), edited, serial),
+            Site::New => false,
+        }
     }
 
     // How many entries of the diary stay by an edit, unless memory runs out: those up to the first
     // begin of the time parent of the edited node, with that, where the edit leaves the references
     // as they were.
-    fn staying(&self, graph: &Graph, site: Site) -> Result<usize, AllocError>
-        requires { IsMade self.now.document site (document_of graph.now) }
-        ensures { IfOk result (λ len. len ≡ staying self.now (document_of graph.now) site) }
+    fn staying(&self, revised: &Revised, site: Site) -> Result<usize, AllocError>
+        requires made { IsMade self.now.document site (document_of revised.now.graph) }
+        requires alike { revised.now.alike ≡ true
+            → all_reduced self.now.document.nodes ≡ all_reduced revised.now.graph.nodes }
+        ensures { IfOk result (λ len. len ≡ staying self.now (document_of revised.now.graph) site) }
     {
-        let (serial, parent) = edited_node(self.viewer.cells.tree(), graph.tree(), site);
-        let keeps = self.keeps_references(serial, graph)?;
+        let (serial, parent) = edited_node(self.viewer.cells.tree(), revised.graph.tree(), site);
+        let keeps = self.keeps_references(serial, revised)?;
         Ok(entries_staying(self.viewer.cells.book(), keeps, parent))
     }
 
     // Whether an edit of a node leaves the references as they were, unless memory runs out.
-    fn keeps_references(&self, serial: u32, graph: &Graph) -> Result<bool, AllocError>
+    fn keeps_references(&self, serial: u32, revised: &Revised) -> Result<bool, AllocError>
+        requires { revised.now.alike ≡ true
+            → all_reduced self.now.document.nodes ≡ all_reduced revised.now.graph.nodes }
         ensures { IfOk result (λ keeps. keeps
-            ≡ keeps_references serial self.now.document.nodes graph.now.nodes) }
+            ≡ keeps_references serial self.now.document.nodes revised.now.graph.nodes) }
     {
+        if revised.alike {
+            return Ok(true);
+        }
         let revision = Revision {
             edited: serial,
             old: self.viewer.cells.past().graph(),
-            new: graph,
+            new: &revised.graph,
         };
         keeps_references(self.alloc, revision)
     }

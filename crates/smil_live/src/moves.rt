@@ -1,18 +1,16 @@
 //! Orders that go on from the present state, or back to an earlier one.
 
-ghost use Rattle.std.specs.Prelude.{◌≡◌, ◌≤◌, ◌-◌, ◌++◌, ℕ, Option, drop, length as length_of, true, OnOk, OnErr, IfOk, IfErr, ◌<ℤ◌, pos};
+ghost use Rattle.std.specs.Prelude.{◌≡◌, ◌≤◌, ◌-◌, ◌++◌, length as length_of, true, OnOk, OnErr, IfOk, IfErr, ◌<ℤ◌, pos};
 ghost use Rattle.smil_model.specs.declared.order.Order.TheVariants as order;
 ghost use Rattle.smil_model.specs.document.Document.{is_continuous, elements};
 ghost use Rattle.smil_model.specs.document.Values.{is_clock};
 ghost use Rattle.smil_model.specs.diary.Logs.{may_happen};
-ghost use Rattle.smil_model.specs.shown.Answers.{IsGiven, MayEvaluate, Refuses};
+ghost use Rattle.smil_model.specs.shown.Answers.{IsGiven};
 ghost use Rattle.smil_model.specs.shown.Orders.{IsState};
-ghost use Rattle.smil_grammar.specs.Formats.{formats};
-ghost use Rattle.smil_report.specs.Tellings.{Tells};
 ghost use Rattle.smil_cells.specs.CellsState.{WhereTold};
-ghost use Rattle.smil_live.specs.Counted.{KeepsToCounts};
+ghost use Rattle.smil_live.specs.Answered.{IsAnswered, IsHeard};
 ghost use Rattle.smil_live.specs.Counts.{least_loading, least_onward, most_onward};
-ghost use Rattle.smil_live.specs.Moves.{IsHeardBy, IsNotHeard, IsReplayed, IsTooFull, MayMove, changes_by, made, sought_of, told_of};
+ghost use Rattle.smil_live.specs.Moves.{IsReplayed, IsTooFull, MayMove, changes_by, made, sought_of, told_of};
 
 use super::presentation::PresentationOver;
 use super::replay::cells_at;
@@ -46,15 +44,8 @@ impl<T: Table> PresentationOver<T> {
         steps: &mut Steps<L>,
     ) -> Result<(), Refusal>
         requires { is_clock by ≡ true }
-        ensures ok { OnOk result (Tells I.telling formats self.old self.new (order.Advance by)
-            (drop (length_of out.old) out.new)) }
-        ensures appended { OnOk result (out.new ≡ out.old ++ drop (length_of out.old) out.new) }
-        ensures refused { IfErr result (Refuses formats self.old (order.Advance by)) }
-        ensures kept { OnErr result (self.new ≡ self.old) }
-        ensures text { OnErr result (out.new ≡ out.old) }
-        ensures counted { steps.old ≤ steps.new }
-        ensures bounded { KeepsToCounts T.counts self.old (order.Advance by) result
-            (steps.new - steps.old) }
+        ensures { IsAnswered I.telling T.counts (order.Advance by) result self.old self.new
+            out.old out.new steps.old steps.new }
     {
         let to = self.viewer.cells.moment() + by;
         if to > HORIZON {
@@ -75,15 +66,8 @@ impl<T: Table> PresentationOver<T> {
         steps: &mut Steps<L>,
     ) -> Result<(), Refusal>
         requires { is_clock to ≡ true }
-        ensures ok { OnOk result (Tells I.telling formats self.old self.new (order.Seek to)
-            (drop (length_of out.old) out.new)) }
-        ensures appended { OnOk result (out.new ≡ out.old ++ drop (length_of out.old) out.new) }
-        ensures refused { IfErr result (Refuses formats self.old (order.Seek to)) }
-        ensures kept { OnErr result (self.new ≡ self.old) }
-        ensures text { OnErr result (out.new ≡ out.old) }
-        ensures counted { steps.old ≤ steps.new }
-        ensures bounded { KeepsToCounts T.counts self.old (order.Seek to) result
-            (steps.new - steps.old) }
+        ensures { IsAnswered I.telling T.counts (order.Seek to) result self.old self.new
+            out.old out.new steps.old steps.new }
     {
         if to < self.viewer.cells.moment() {
             return self.seek_back(to, out, steps);
@@ -103,15 +87,8 @@ impl<T: Table> PresentationOver<T> {
     ) -> Result<(), Refusal>
         requires clock { is_clock to ≡ true }
         requires back { to <ℤ pos self.old.now }
-        ensures ok { OnOk result (Tells I.telling formats self.old self.new (order.Seek to)
-            (drop (length_of out.old) out.new)) }
-        ensures appended { OnOk result (out.new ≡ out.old ++ drop (length_of out.old) out.new) }
-        ensures refused { IfErr result (Refuses formats self.old (order.Seek to)) }
-        ensures kept { OnErr result (self.new ≡ self.old) }
-        ensures text { OnErr result (out.new ≡ out.old) }
-        ensures counted { steps.old ≤ steps.new }
-        ensures bounded { KeepsToCounts T.counts self.old (order.Seek to) result
-            (steps.new - steps.old) }
+        ensures { IsAnswered I.telling T.counts (order.Seek to) result self.old self.new
+            out.old out.new steps.old steps.new }
     {
         self.settled();
         let mut cells = self.made_at(to, steps)?;
@@ -145,15 +122,8 @@ impl<T: Table> PresentationOver<T> {
         steps: &mut Steps<L>,
     ) -> Result<(), Refusal>
         requires { IsGiven (order.Event who.now name.now) }
-        ensures ok { OnOk result (Tells I.telling formats self.old self.new (order.Event who.now name.now)
-            (drop (length_of out.old) out.new)) }
-        ensures appended { OnOk result (out.new ≡ out.old ++ drop (length_of out.old) out.new) }
-        ensures refused { IfErr result (Refuses formats self.old (order.Event who.now name.now)) }
-        ensures kept { OnErr result (self.new ≡ self.old) }
-        ensures text { OnErr result (out.new ≡ out.old) }
-        ensures counted { steps.old ≤ steps.new }
-        ensures bounded { KeepsToCounts T.counts self.old (order.Event who.now name.now) result
-            (steps.new - steps.old) }
+        ensures { IsAnswered I.telling T.counts (order.Event who.now name.now) result self.old
+            self.new out.old out.new steps.old steps.new }
     {
         self.settled();
         let serial = self.element(who)?;
@@ -173,15 +143,8 @@ impl<T: Table> PresentationOver<T> {
         steps: &mut Steps<L>,
     ) -> Result<(), Refusal>
         requires { IsGiven (order.Media who.now length) }
-        ensures ok { OnOk result (Tells I.telling formats self.old self.new (order.Media who.now length)
-            (drop (length_of out.old) out.new)) }
-        ensures appended { OnOk result (out.new ≡ out.old ++ drop (length_of out.old) out.new) }
-        ensures refused { IfErr result (Refuses formats self.old (order.Media who.now length)) }
-        ensures kept { OnErr result (self.new ≡ self.old) }
-        ensures text { OnErr result (out.new ≡ out.old) }
-        ensures counted { steps.old ≤ steps.new }
-        ensures bounded { KeepsToCounts T.counts self.old (order.Media who.now length) result
-            (steps.new - steps.old) }
+        ensures { IsAnswered I.telling T.counts (order.Media who.now length) result self.old
+            self.new out.old out.new steps.old steps.new }
     {
         let serial = self.node(who)?;
         if !is_continuous(self.viewer.cells.tree().kind(serial)) {
@@ -203,19 +166,8 @@ impl<T: Table> PresentationOver<T> {
         steps: &mut Steps<L>,
     ) -> Result<(), Refusal>
         requires { may_happen what ≡ true }
-        ensures ok { OnOk result (IsHeardBy I.telling self.old what self.new
-            (drop (length_of out.old) out.new)) }
-        ensures appended { OnOk result (out.new ≡ out.old ++ drop (length_of out.old) out.new) }
-        ensures refused { IfErr result (IsNotHeard self.old what) }
-        ensures kept { OnErr result (self.new ≡ self.old) }
-        ensures text { OnErr result (out.new ≡ out.old) }
-        ensures counted { steps.old ≤ steps.new }
-        ensures most { OnOk result (WhereTold T.counts
-            (steps.new - steps.old ≤ most_onward self.old self.new)) }
-        ensures least { OnOk result (WhereTold T.counts
-            (least_onward self.old self.new ≤ steps.new - steps.old)) }
-        ensures free { (most : Option ℕ)
-            → IfErr result (λ refusal. MayEvaluate most refusal (steps.new - steps.old)) }
+        ensures { IsHeard I.telling T.counts what result self.old self.new out.old out.new
+            steps.old steps.new }
     {
         if self.viewer.cells.log().len() >= LOG_ENTRIES {
             return Err(Refusal::LogFull);

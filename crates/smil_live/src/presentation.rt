@@ -1,6 +1,6 @@
 //! A presentation that answers orders.
 
-ghost use Rattle.std.specs.Prelude.{◌≡◌, ◌≤◌, ◌-◌, ◌++◌, drop, length, true, false, Some, IsSome, Ok, Err, OnOk, OnErr, IfOk, IfErr};
+ghost use Rattle.std.specs.Prelude.{◌≡◌, ◌≤◌, ◌-◌, ◌++◌, true, false, Some, IsSome, Ok, Err, OnOk, OnErr, IfOk, IfErr};
 ghost use Rattle.smil_model.specs.declared.document.Node.{Node as AnyNode};
 ghost use Rattle.smil_model.specs.declared.order.Order.TheVariants as order;
 ghost use Rattle.smil_model.specs.diary.Logs.{is_serial};
@@ -8,11 +8,10 @@ ghost use Rattle.smil_model.specs.document.Document.{node_at};
 ghost use Rattle.smil_model.specs.document.Valid.{IsValid};
 ghost use Rattle.smil_model.specs.happening.Resolution.{diary_of};
 ghost use Rattle.smil_model.specs.shown.Orders.{IsState, course_of, found, node_of, opened};
-ghost use Rattle.smil_model.specs.shown.Answers.{IsGiven, IsRefusedBy, Refuses};
-ghost use Rattle.smil_grammar.specs.Formats.{formats};
-ghost use Rattle.smil_report.specs.Tellings.{Tells, is_telling, load_told};
+ghost use Rattle.smil_model.specs.shown.Answers.{IsGiven, IsRefusedBy};
+ghost use Rattle.smil_report.specs.Tellings.{is_telling, load_told};
 ghost use Rattle.smil_cells.specs.CellsState.{WhereTold};
-ghost use Rattle.smil_live.specs.Counted.{KeepsToCounts};
+ghost use Rattle.smil_live.specs.Answered.{IsAnswered};
 ghost use Rattle.smil_live.specs.Counts.{least_loading, most_loading};
 ghost use Rattle.smil_shown.specs.ShownViews.{IsPlaying};
 ghost use Rattle.smil_live.specs.Moves.{IsReplayed};
@@ -160,15 +159,8 @@ impl<T: Table> PresentationOver<T> {
         steps: &mut Steps<L>,
     ) -> Result<(), Refusal>
         requires { IsGiven (order.Key key) }
-        ensures ok { OnOk result (Tells I.telling formats self.old self.new (order.Key key)
-            (drop (length out.old) out.new)) }
-        ensures appended { OnOk result (out.new ≡ out.old ++ drop (length out.old) out.new) }
-        ensures refused { IfErr result (Refuses formats self.old (order.Key key)) }
-        ensures kept { OnErr result (self.new ≡ self.old) }
-        ensures text { OnErr result (out.new ≡ out.old) }
-        ensures counted { steps.old ≤ steps.new }
-        ensures bounded { KeepsToCounts T.counts self.old (order.Key key) result
-            (steps.new - steps.old) }
+        ensures { IsAnswered I.telling T.counts (order.Key key) result self.old self.new
+            out.old out.new steps.old steps.new }
     {
         self.settled();
         self.hear(Happening::Key { key }, out, steps)
@@ -184,14 +176,8 @@ impl<T: Table> PresentationOver<T> {
     ) -> Result<(), Refusal>
         requires given { IsGiven order.now }
         requires edits { is_edit order.now ≡ true }
-        ensures ok { OnOk result (Tells I.telling formats self.old self.new order.now
-            (drop (length out.old) out.new)) }
-        ensures appended { OnOk result (out.new ≡ out.old ++ drop (length out.old) out.new) }
-        ensures refused { IfErr result (Refuses formats self.old order.now) }
-        ensures kept { OnErr result (self.new ≡ self.old) }
-        ensures text { OnErr result (out.new ≡ out.old) }
-        ensures counted { steps.old ≤ steps.new }
-        ensures bounded { KeepsToCounts T.counts self.old order.now result (steps.new - steps.old) }
+        ensures { IsAnswered I.telling T.counts order.now result self.old self.new
+            out.old out.new steps.old steps.new }
     {
         match order {
             Order::Set {
@@ -238,14 +224,8 @@ impl<T: Table> PresentationOver<T> {
     ) -> Result<(), Refusal>
         requires given { IsGiven order.now }
         requires changes { is_telling order.now ≡ false }
-        ensures ok { OnOk result (Tells I.telling formats self.old self.new order.now
-            (drop (length out.old) out.new)) }
-        ensures appended { OnOk result (out.new ≡ out.old ++ drop (length out.old) out.new) }
-        ensures refused { IfErr result (Refuses formats self.old order.now) }
-        ensures kept { OnErr result (self.new ≡ self.old) }
-        ensures text { OnErr result (out.new ≡ out.old) }
-        ensures counted { steps.old ≤ steps.new }
-        ensures bounded { KeepsToCounts T.counts self.old order.now result (steps.new - steps.old) }
+        ensures { IsAnswered I.telling T.counts order.now result self.old self.new
+            out.old out.new steps.old steps.new }
     {
         match order {
             Order::Advance { by } => self.advance(*by, out, steps),
@@ -261,15 +241,12 @@ impl<T: Table> PresentationOver<T> {
 }
 
 impl<T: Table> Player for PresentationOver<T> {
-    ghost use Rattle.std.specs.Prelude.{true};
     ghost use Rattle.smil_grammar.specs.Formats.{formats};
     ghost use Rattle.smil_live.specs.Counts.{least_number, most_number, told_where};
 
     ghost formats = { λ _. formats };
 
     ghost presentation = { λ p. p };
-
-    ghost takes = { λ _ _. true };
 
     ghost least_steps = { λ p order. told_where T.counts (least_number p order) };
 

@@ -1,13 +1,14 @@
 //! Cells that go on, and what is told of them then.
 
-ghost use Rattle.std.specs.Prelude.{◌≡◌, ◌≤◌, ◌-◌, ◌++◌, [], ◌∷◌, true, None, Some, OnOk, IfErr, IfSome, IfNone, ◌≤ℤ◌, ◌+ℤ◌, pos};
+ghost use Rattle.std.specs.Prelude.{◌≡◌, ◌++◌, [], ◌∷◌, true, None, Some, OnOk, IfErr, IfSome, IfNone, ◌≤ℤ◌, ◌+ℤ◌, pos};
 ghost use Rattle.smil_model.specs.declared.document.Node.{Node as AnyNode};
 ghost use Rattle.smil_model.specs.document.Document.{elements, node_at};
 ghost use Rattle.smil_model.specs.shown.Orders.{IsState};
 ghost use Rattle.smil_report.specs.Tellings.{Begins};
-ghost use Rattle.smil_cells.specs.CellsState.{GoesOn, NothingBefore, CellsState, IsSettled, WhereTold, fresh_since, reached_since};
+ghost use Rattle.smil_cells.specs.CellsState.{GoesOn, NothingBefore, CellsState, IsSettled};
 ghost use Rattle.smil_shown.specs.ShownViews.{IsShown, views_at};
-ghost use Rattle.smil_live.specs.Moves.{IsFirstDue, IsShownAt, IsTooFull, MayMove, changes_by, made, told_of};
+ghost use Rattle.smil_live.specs.Answered.{IsMoved};
+ghost use Rattle.smil_live.specs.Moves.{IsFirstDue, MayMove};
 ghost use Rattle.smil_shown.specs.ViewTable.{has_view, view_now, with_view};
 ghost use Rattle.smil_shown.specs.Told.{told_between};
 
@@ -48,19 +49,8 @@ impl<T: Table> Viewer<T> {
     ) -> Result<(), Refusal>
         requires may { MayMove self.old.cells.presentation step }
         requires shown { IsShown self.old.cells self.old.seen }
-        ensures ok { OnOk result (IsShownAt (made self.old.cells.presentation step) self.new.cells
-            self.new.seen) }
-        ensures told { OnOk result (out.new ≡ out.old
-            ++ told_of I.telling self.old.cells.presentation (changes_by self.old.cells.presentation step)) }
-        ensures refused { IfErr result (IsTooFull (made self.old.cells.presentation step)) }
-        ensures marked { self.new.cells.marked ≡ self.old.cells.marked }
-        ensures before { self.new.seen.before ≡ self.old.seen.before }
-        ensures begins { Begins out.old out.new }
-        ensures counted { steps.old ≤ steps.new }
-        ensures most { OnOk result (WhereTold T.counts
-            (steps.new - steps.old ≤ reached_since self.old.cells self.new.cells)) }
-        ensures least { OnOk result (WhereTold T.counts
-            (fresh_since self.old.cells self.new.cells ≤ steps.new - steps.old)) }
+        ensures { IsMoved I.telling T.counts step result self.old.cells
+            self.new.cells self.old.seen self.new.seen out.old out.new steps.old steps.new }
     {
         match step {
             Move::Pass(to) => self.pass_through(to, out, steps),
@@ -81,20 +71,8 @@ impl<T: Table> Viewer<T> {
     ) -> Result<(), Refusal>
         requires may { MayMove self.old.cells.presentation (Move.Pass to) }
         requires shown { IsShown self.old.cells self.old.seen }
-        ensures ok { OnOk result (IsShownAt (made self.old.cells.presentation (Move.Pass to))
-            self.new.cells self.new.seen) }
-        ensures told { OnOk result (out.new ≡ out.old ++ told_of I.telling self.old.cells.presentation
-            (changes_by self.old.cells.presentation (Move.Pass to))) }
-        ensures refused { IfErr result
-            (IsTooFull (made self.old.cells.presentation (Move.Pass to))) }
-        ensures marked { self.new.cells.marked ≡ self.old.cells.marked }
-        ensures before { self.new.seen.before ≡ self.old.seen.before }
-        ensures begins { Begins out.old out.new }
-        ensures counted { steps.old ≤ steps.new }
-        ensures most { OnOk result (WhereTold T.counts
-            (steps.new - steps.old ≤ reached_since self.old.cells self.new.cells)) }
-        ensures least { OnOk result (WhereTold T.counts
-            (fresh_since self.old.cells self.new.cells ≤ steps.new - steps.old)) }
+        ensures { IsMoved I.telling T.counts (Move.Pass to) result self.old.cells
+            self.new.cells self.old.seen self.new.seen out.old out.new steps.old steps.new }
     {
         while let Some(due) = due_by(&self.cells, to) {
             self.settle_once(due, out, steps)?;
@@ -111,21 +89,9 @@ impl<T: Table> Viewer<T> {
     ) -> Result<(), Refusal>
         requires may { MayMove self.old.cells.presentation (Move.Settle to) }
         requires shown { IsShown self.old.cells self.old.seen }
-        ensures ok { OnOk result (IsShownAt (made self.old.cells.presentation (Move.Settle to))
-            self.new.cells self.new.seen) }
-        ensures told { OnOk result (out.new ≡ out.old ++ told_of I.telling self.old.cells.presentation
-            (changes_by self.old.cells.presentation (Move.Settle to))) }
-        ensures refused { IfErr result
-            (IsTooFull (made self.old.cells.presentation (Move.Settle to))) }
-        ensures marked { self.new.cells.marked ≡ self.old.cells.marked }
-        ensures before { self.new.seen.before ≡ self.old.seen.before }
-        ensures begins { Begins out.old out.new }
-        ensures counted { steps.old ≤ steps.new }
+        ensures moved { IsMoved I.telling T.counts (Move.Settle to) result self.old.cells
+            self.new.cells self.old.seen self.new.seen out.old out.new steps.old steps.new }
         ensures goes_on { OnOk result (GoesOn self.old.cells self.new.cells) }
-        ensures most { OnOk result (WhereTold T.counts
-            (steps.new - steps.old ≤ reached_since self.old.cells self.new.cells)) }
-        ensures least { OnOk result (WhereTold T.counts
-            (fresh_since self.old.cells self.new.cells ≤ steps.new - steps.old)) }
     {
         self.cells.settle(to, steps)?;
         put_touched(&self.cells, &mut self.seen, out)

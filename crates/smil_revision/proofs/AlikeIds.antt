@@ -56,13 +56,17 @@ itself : (o : Option ℕ) → is_same_serial o o ≡ true
 itself None = refl
 itself (Some s) = eq-eqb s s refl
 
-keeps : (ns ms : List Node) → pointwise is_alike ns ms ≡ true → (id : Option (List ℕ)) → keeps_id ns ms id ≡ true
-keeps ns ms e None = refl
-keeps ns ms e (Some id) = subst (λ (o : Option ℕ). is_same_serial (serial_named ns id) o ≡ true) (same_named ns ms e id) (itself (serial_named ns id))
-
-pub keeps_each : (ns ms : List Node) → pointwise is_alike ns ms ≡ true → keeps_ids ns ms ≡ true
-keeps_each ns ms e = each (ns ++ ms)
+-- where each id names the same element, ids are kept
+pub keeps_all : (ns ms : List Node) → ((id : List ℕ) → serial_named ns id ≡ serial_named ms id) → keeps_ids ns ms ≡ true
+keeps_all ns ms same = each (ns ++ ms)
   where
+    keeps : (id : Option (List ℕ)) → keeps_id ns ms id ≡ true
+    keeps None = refl
+    keeps (Some id) = subst (λ (o : Option ℕ). is_same_serial (serial_named ns id) o ≡ true) (same id) (itself (serial_named ns id))
+
     each : (xs : List Node) → list_all (λ (n : Node). keeps_id ns ms n.attrs.id) xs ≡ true
     each [] = refl
-    each (x ∷ xs) = ap (λ (t : Bool). t && list_all (λ (n : Node). keeps_id ns ms n.attrs.id) xs) (keeps ns ms e x.attrs.id) ∙ each xs
+    each (x ∷ xs) = ap (λ (t : Bool). t && list_all (λ (n : Node). keeps_id ns ms n.attrs.id) xs) (keeps x.attrs.id) ∙ each xs
+
+pub keeps_each : (ns ms : List Node) → pointwise is_alike ns ms ≡ true → keeps_ids ns ms ≡ true
+keeps_each ns ms e = keeps_all ns ms (same_named ns ms e)

@@ -1,5 +1,6 @@
 pub mod AgreedMarks
 pub mod AlikeIds
+pub mod AlikeReferences
 pub mod EditedCopies
 pub mod LineFaults
 pub mod OrderReadings

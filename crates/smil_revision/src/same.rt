@@ -1,6 +1,6 @@
 //! Whether an edit leaves the attributes of a node as they were.
 
-ghost use Rattle.std.specs.Prelude.{◌≡◌, true, Some, option_copied};
+ghost use Rattle.std.specs.Prelude.{◌≡◌, ◌↔◌, Some, IsTrue, option_copied};
 ghost use Rattle.smil_model.specs.declared.document.Node.{Node as AnyNode};
 ghost use Rattle.smil_model.specs.document.Document.{node_at};
 
@@ -13,12 +13,26 @@ use smil_tree::Tree;
 /// Whether two documents both have a node of this serial, with the same attributes. It takes no
 /// memory.
 pub fn have_same_attrs(before: &Tree, after: &Tree, serial: u32) -> bool
-    ensures { result ≡ true → (old : AnyNode) × (new : AnyNode)
+    ensures { IsTrue result ↔ ((old : AnyNode) × (new : AnyNode)
         × (node_at before.now.nodes serial ≡ Some old)
-        × (node_at after.now.nodes serial ≡ Some new) × (new.attrs ≡ old.attrs) }
+        × (node_at after.now.nodes serial ≡ Some new) × (new.attrs ≡ old.attrs)) }
 {
     match (node_in(before, serial), node_in(after, serial)) {
         (Some(old), Some(new)) => are_same(&new.attrs, &old.attrs),
+        _ => false,
+    }
+}
+
+/// Whether two documents both have a node of this serial, with the same attributes but for plain
+/// texts. It takes no memory.
+pub fn agree_but_for_texts(before: &Tree, after: &Tree, serial: u32) -> bool
+    ensures { IsTrue result ↔ ((old : AnyNode) × (new : AnyNode)
+        × (node_at before.now.nodes serial ≡ Some old)
+        × (node_at after.now.nodes serial ≡ Some new)
+        × (new.attrs ≡ record old.attrs { texts = new.attrs.texts })) }
+{
+    match (node_in(before, serial), node_in(after, serial)) {
+        (Some(old), Some(new)) => are_same_but_for_texts(&new.attrs, &old.attrs),
         _ => false,
     }
 }
@@ -33,7 +47,14 @@ fn node_in(tree: &Tree, serial: u32) -> Option<&Node>
 
 // Whether all attributes are the same.
 fn are_same(one: &Attrs, other: &Attrs) -> bool
-    ensures { result ≡ true → one.now ≡ other.now }
+    ensures { IsTrue result ↔ (one.now ≡ other.now) }
+{
+    are_same_but_for_texts(one, other) && are_same_texts(&one.texts, &other.texts)
+}
+
+// Whether all attributes but plain texts are the same.
+fn are_same_but_for_texts(one: &Attrs, other: &Attrs) -> bool
+    ensures { IsTrue result ↔ (one.now ≡ record other.now { texts = one.now.texts }) }
 {
     is_same_text(&one.id, &other.id)
         && are_same_lists(&one.begin, &other.begin)
@@ -51,12 +72,11 @@ fn are_same(one: &Attrs, other: &Attrs) -> bool
         && is_same_act(one.peers, other.peers)
         && is_same_act(one.higher, other.higher)
         && is_same_act(one.lower, other.lower)
-        && are_same_texts(&one.texts, &other.texts)
 }
 
 // Whether all plain texts are the same.
 fn are_same_texts(one: &Texts, other: &Texts) -> bool
-    ensures { result ≡ true → one.now ≡ other.now }
+    ensures { IsTrue result ↔ (one.now ≡ other.now) }
 {
     is_same_text(&one.src, &other.src)
         && is_same_text(&one.region, &other.region)
@@ -69,7 +89,7 @@ fn are_same_texts(one: &Texts, other: &Texts) -> bool
 
 // Whether two texts are the same, or both absent.
 fn is_same_text(one: &Option<Bytes>, other: &Option<Bytes>) -> bool
-    ensures { result ≡ true → one.now ≡ other.now }
+    ensures { IsTrue result ↔ (one.now ≡ other.now) }
 {
     match (one, other) {
         (None, None) => true,
@@ -80,7 +100,7 @@ fn is_same_text(one: &Option<Bytes>, other: &Option<Bytes>) -> bool
 
 // Whether two lists of items are the same, or both absent.
 fn are_same_lists(one: &Option<Items>, other: &Option<Items>) -> bool
-    ensures { result ≡ true → one.now ≡ other.now }
+    ensures { IsTrue result ↔ (one.now ≡ other.now) }
 {
     match (one, other) {
         (None, None) => true,
@@ -91,7 +111,7 @@ fn are_same_lists(one: &Option<Items>, other: &Option<Items>) -> bool
 
 // Whether items are the same, one after another.
 fn are_same_items(ones: &[Item], others: &[Item]) -> bool
-    ensures { result ≡ true → ones.now ≡ others.now }
+    ensures { IsTrue result ↔ (ones.now ≡ others.now) }
 {
     let mut left = others.iter();
     for one in ones {
@@ -107,7 +127,7 @@ fn are_same_items(ones: &[Item], others: &[Item]) -> bool
 
 // Whether two items are the same.
 fn is_same_item(one: &Item, other: &Item) -> bool
-    ensures { result ≡ true → one.now ≡ other.now }
+    ensures { IsTrue result ↔ (one.now ≡ other.now) }
 {
     match (one, other) {
         (Item::Offset { offset }, Item::Offset { offset: by }) => offset == by,
@@ -149,7 +169,7 @@ fn is_same_item(one: &Item, other: &Item) -> bool
 
 // Whether two edges are the same.
 fn is_same_edge(one: Edge, other: Edge) -> bool
-    ensures { result ≡ true → one ≡ other }
+    ensures { IsTrue result ↔ (one ≡ other) }
 {
     matches!(
         (one, other),
@@ -159,7 +179,7 @@ fn is_same_edge(one: Edge, other: Edge) -> bool
 
 // Whether two values of `dur` are the same, or both absent.
 fn is_same_dur(one: Option<Dur>, other: Option<Dur>) -> bool
-    ensures { result ≡ true → one ≡ other }
+    ensures { IsTrue result ↔ (one ≡ other) }
 {
     match (one, other) {
         (Some(Dur::Clock(one)), Some(Dur::Clock(other))) => one == other,
@@ -172,7 +192,7 @@ fn is_same_dur(one: Option<Dur>, other: Option<Dur>) -> bool
 
 // Whether two values of `repeatCount` are the same, or both absent.
 fn is_same_count(one: Option<Count>, other: Option<Count>) -> bool
-    ensures { result ≡ true → one ≡ other }
+    ensures { IsTrue result ↔ (one ≡ other) }
 {
     match (one, other) {
         (Some(Count::Thousandths(one)), Some(Count::Thousandths(other))) => one == other,
@@ -183,7 +203,7 @@ fn is_same_count(one: Option<Count>, other: Option<Count>) -> bool
 
 // Whether two values of `restart` are the same, or both absent.
 fn is_same_restart(one: Option<Restart>, other: Option<Restart>) -> bool
-    ensures { result ≡ true → one ≡ other }
+    ensures { IsTrue result ↔ (one ≡ other) }
 {
     matches!(
         (one, other),
@@ -197,7 +217,7 @@ fn is_same_restart(one: Option<Restart>, other: Option<Restart>) -> bool
 
 // Whether two values of `restartDefault` are the same, or both absent.
 fn is_same_restart_default(one: Option<RestartDefault>, other: Option<RestartDefault>) -> bool
-    ensures { result ≡ true → one ≡ other }
+    ensures { IsTrue result ↔ (one ≡ other) }
 {
     matches!(
         (one, other),
@@ -214,7 +234,7 @@ fn is_same_restart_default(one: Option<RestartDefault>, other: Option<RestartDef
 
 // Whether two values of `fill` are the same, or both absent.
 fn is_same_fill(one: Option<Fill>, other: Option<Fill>) -> bool
-    ensures { result ≡ true → one ≡ other }
+    ensures { IsTrue result ↔ (one ≡ other) }
 {
     matches!(
         (one, other),
@@ -229,7 +249,7 @@ fn is_same_fill(one: Option<Fill>, other: Option<Fill>) -> bool
 
 // Whether two values of `fillDefault` are the same, or both absent.
 fn is_same_fill_default(one: Option<FillDefault>, other: Option<FillDefault>) -> bool
-    ensures { result ≡ true → one ≡ other }
+    ensures { IsTrue result ↔ (one ≡ other) }
 {
     matches!(
         (one, other),
@@ -244,7 +264,7 @@ fn is_same_fill_default(one: Option<FillDefault>, other: Option<FillDefault>) ->
 
 // Whether two values of `endsync` are the same, or both absent.
 fn is_same_endsync(one: &Option<Endsync>, other: &Option<Endsync>) -> bool
-    ensures { result ≡ true → one.now ≡ other.now }
+    ensures { IsTrue result ↔ (one.now ≡ other.now) }
 {
     match (one, other) {
         (Some(Endsync::Child(one)), Some(Endsync::Child(other))) => one.slice() == other.slice(),
@@ -258,7 +278,7 @@ fn is_same_endsync(one: &Option<Endsync>, other: &Option<Endsync>) -> bool
 
 // Whether an excl does the same, or nothing is stated in both.
 fn is_same_act(one: Option<Act>, other: Option<Act>) -> bool
-    ensures { result ≡ true → one ≡ other }
+    ensures { IsTrue result ↔ (one ≡ other) }
 {
     matches!(
         (one, other),

@@ -19,7 +19,7 @@ invariant_of-self g c = elim c.match-gone.branch [
   | in-Err w ↦
       subst (λ s. IsPlaying s.viewer.cells s.viewer.seen) (sym w.self-inside-is)
       (plays_again c.self.inside.viewer.cells c.mark.new.self c.go_on-gone.new.self.cells w.back.new.self c.self.inside.viewer.seen c.go_on-gone.new.self.seen w.back-in-Err.new.self c.self.invariant c.mark.ensures
-      c.go_on-gone.ensures.marked w.back.ensures c.go_on-gone.ensures.before w.back-in-Err.ensures)
+      c.go_on-gone.ensures.marked w.back.ensures c.go_on-gone.ensures.before_is w.back-in-Err.ensures)
 ]
 
 pub returns-clause-most : goal.returns-clause-most

@@ -1,4 +1,4 @@
-use Rattle.std.proofs.Common.{refl, ◌-◌}
+use Rattle.std.proofs.Common.{refl, sym, subst, ◌-◌}
 use Rattle.smil_model.specs.declared.order.Order.{Order}
 use Rattle.smil_model.specs.declared.order.Order.TheVariants as order
 use Rattle.smil_model.specs.declared.order.Who.{Who}
@@ -6,7 +6,8 @@ use Rattle.smil_model.specs.shown.Answers.{Refuses}
 use Rattle.smil_grammar.specs.Formats.{formats}
 use Rattle.smil_tree.proofs.ResultClauses.{on_err}
 use Rattle.smil_revision.specs.declared.values.Child.{Child}
-use Rattle.smil_live.specs.declared.edits.Site.TheVariants as site
+use Rattle.smil_live.specs.Sites.{IsMade}
+use Rattle.smil_live.specs.declared.edits.Site.{Site}
 use Rattle.smil_live.proofs.AgreedCells.{IsAnswered, edit_answered}
 use Rattle.smil_live.proofs.AgreedEdits.{edit_made}
 use Rattle.smil_live.proofs.CountedOrders.{bounded_at_once}
@@ -20,12 +21,12 @@ abbrev asked : Who → Child → Order
 asked who child = order.Insert who child.place child.line.text.now child.line.column
 
 pub take_edited-requires : goal.take_edited-requires
-take_edited-requires g c = edit_made c.args.self.now (asked c.args.who.now c.args.child) c.in_ok-edited.edited refl c.in_ok-edited.ensures.ok
+take_edited-requires g c = subst (λ (x : Site). IsMade c.args.self.now.document x c.in_ok-edited.edited.tree) (sym c.in_ok-edited.ensures.site) (edit_made c.args.self.now (asked c.args.who.now c.args.child) c.in_ok-edited.edited.tree refl c.in_ok-edited.ensures.ok)
 
 answered : (g : Over) (c : After-take_edited g) → IsAnswered g.I.ChangeItem.telling c.take_edited.result g.T.Table.counts c.args.self.now c.take_edited.new.self (asked c.args.who.now c.args.child) c.args.out.now c.take_edited.new.out (c.take_edited.new.steps - c.args.steps.now)
 answered g c =
-    edit_answered g.I.ChangeItem.telling c.take_edited.result g.T.Table.counts c.args.self.now c.take_edited.new.self (asked c.args.who.now c.args.child) c.in_ok-edited.edited site.New c.args.out.now c.take_edited.new.out (c.take_edited.new.steps - c.args.steps.now) refl
-    c.in_ok-edited.ensures.ok refl c.take_edited.ensures.ok c.take_edited.ensures.most c.take_edited.ensures.least c.take_edited.ensures.refused
+    edit_answered g.I.ChangeItem.telling c.take_edited.result g.T.Table.counts c.args.self.now c.take_edited.new.self (asked c.args.who.now c.args.child) c.in_ok-edited.edited.tree c.in_ok-edited.edited.site c.args.out.now c.take_edited.new.out (c.take_edited.new.steps - c.args.steps.now) refl
+    c.in_ok-edited.ensures.ok c.in_ok-edited.ensures.site c.take_edited.ensures.ok c.take_edited.ensures.most c.take_edited.ensures.least c.take_edited.ensures.refused
 
 pub returns-clause-ok : goal.returns-clause-ok
 returns-clause-ok g c = (answered g (goal.at.returns-clause-ok g c).After-take_edited).ok

@@ -8,7 +8,7 @@ use Rattle.smil_grammar.specs.Formats.{formats}
 use Rattle.smil_tree.proofs.ResultClauses.{on_err}
 use Rattle.smil_revision.specs.Editing.{at_node}
 use Rattle.smil_revision.specs.declared.values.Child.{Child}
-use Rattle.smil_live.proofs.EditedPresentations.{edit_err, edit_ok, edit_there, node_there}
+use Rattle.smil_live.proofs.EditedPresentations.{edit_there, node_there, refused_at}
 use Rattle.smil_live.proofs.EditOrders.{not_found}
 use Rattle.smil_live.proofs.presentation.PresentationOver.insert_copy.Given.{Over}
 use Rattle.smil_live.proofs.presentation.PresentationOver.insert_copy.Goals as goal
@@ -35,10 +35,12 @@ there g c =
     edit_there c.args.self.now c.tree-tree.result.now c.args.who.now c.in_ok-parent.parent (made c.args.child) c.valid.ensures (c.tree-tree.ensures ∙ ap (λ (p : Presentation). p.document) c.self.view_is) c.in_ok-parent.ensures.ok
 
 pub returns-clause-ok : goal.returns-clause-ok
-returns-clause-ok g c = edit_ok c.with_child.result _ _ (there g (goal.at.returns-clause-ok g c).After-with_child) c.with_child.ensures.ok
+returns-clause-ok g c = there g (goal.at.returns-clause-ok g c).After-with_child ∙ c.in_ok-copy.ensures.ok
 
-pub returns-clause-err : goal.returns-clause-err
-returns-clause-err g c = edit_err c.with_child.result _ _ (there g (goal.at.returns-clause-err g c).After-with_child) c.with_child.ensures.err
+pub returns-in_err-copy-clause-err : goal.returns-in_err-copy-clause-err
+returns-in_err-copy-clause-err g c =
+    on_err _ c.from_residual-in_err-copy.result c.in_err-copy.field-0.0 c.from_residual-in_err-copy.ensures.1
+    (refused_at _ _ c.in_err-copy.field-0.0 (there g (goal.at.returns-in_err-copy-clause-err g c).After-with_child) c.in_err-copy.ensures.err)
 
 pub returns-in_err-parent-clause-err : goal.returns-in_err-parent-clause-err
 returns-in_err-parent-clause-err g c =

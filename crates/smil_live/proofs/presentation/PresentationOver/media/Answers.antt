@@ -1,20 +1,16 @@
-use Rattle.std.proofs.Common.{Err, refl, ◌≡◌, ◌∙◌, sym, ap, subst, w64, to_z, of_z, ◌-◌, drop, length}
+use Rattle.std.proofs.Common.{Err, rules, refl, ◌≡◌, ◌∙◌, sym, ap, subst, w64, to_z, of_z}
 use Rattle.std.specs.Prelude.{IsSome}
 use Rattle.smil_model.specs.document.Document.{Document, is_continuous, node_at}
 use Rattle.smil_model.specs.document.Valid.{IsNumberedTree, kind_of}
 use Rattle.smil_model.specs.document.Limits.{limits}
 use Rattle.smil_model.specs.shown.Orders.{Presentation, outcome, with_logged as logged_within}
 use Rattle.std.proofs.lemmas.Int.{to_z-of_z}
-use Rattle.std.proofs.lemmas.Result.{on_ok_weaker, IfErr-weaker}
 use Rattle.smil_model.specs.declared.diary.Happening.TheVariants as happening
 use Rattle.smil_model.specs.declared.order.Order.TheVariants as order
 use Rattle.smil_model.specs.declared.order.Refusal.TheVariants as refusal
-use Rattle.smil_model.specs.shown.Answers.{Refuses}
 use Rattle.smil_grammar.specs.Formats.{formats}
-use Rattle.smil_live.specs.Counts.{most_number, told_where}
-use Rattle.smil_live.specs.Moves.{IsNotHeard}
-use Rattle.smil_live.proofs.CountedOrders.{bounded_at_once, bounded_then}
-use Rattle.smil_live.proofs.OrderOutcomes.{heard_answered, kind_named, may_media, media_is, media_refused, not_heard}
+use Rattle.smil_live.proofs.AnsweredOrders.{answered_as_heard, refused_at_once}
+use Rattle.smil_live.proofs.OrderOutcomes.{kind_named, may_media, media_is, media_refused}
 use Rattle.smil_live.proofs.presentation.PresentationOver.media.Given.{Over}
 use Rattle.smil_live.proofs.presentation.PresentationOver.media.Goals as goal
 use Rattle.smil_live.proofs.presentation.PresentationOver.media.Goals.{After-hear, After-kind}
@@ -32,11 +28,6 @@ kind g c =
     kind_named c.args.self.now.document c.args.who.now h.0 c.in_ok-serial.serial c.kind.result (subst (λ (p : Presentation). IsNumberedTree p.document) c.self.view_is c.self.invariant.shown_is.state.document.numbered) h.1 h.2
     (c.kind.ensures ∙ ap (λ (d : Document). kind_of (node_at d.nodes c.in_ok-serial.serial)) same)
 
-pub returns-then-not-is_continuous-clause-refused : goal.returns-then-not-is_continuous-clause-refused
-returns-then-not-is_continuous-clause-refused g c =
-    let h = c.in_ok-serial.ensures.ok in
-    media_refused c.args.self.now c.args.who.now c.args.length h.0 h.1 (ap is_continuous (sym (kind g (goal.at.returns-then-not-is_continuous-clause-refused g c).After-kind)) ∙ sym c.is_continuous.ensures ∙ c.if-not-is_continuous.true)
-
 pub hear-requires : goal.hear-requires
 hear-requires g c =
     may_media c.in_ok-serial.serial (to_z w64 (of_z w64 c.args.length)) c.args.length c.in_ok-serial.ensures.serial (to_z-of_z w64 c.args.length c.ranges.length) c.requires.1
@@ -48,26 +39,18 @@ is_heard g c same =
     let continuous = ap is_continuous (sym same) ∙ sym c.is_continuous.ensures ∙ c.if-not-is_continuous.false in
     media_is c.args.self.now c.args.who.now c.in_ok-serial.serial (to_z w64 (of_z w64 c.args.length)) c.args.length h.0 h.1 continuous h.2 (to_z-of_z w64 c.args.length c.ranges.length)
 
-pub returns-clause-ok : goal.returns-clause-ok
-returns-clause-ok g c =
-    let at = goal.at.returns-clause-ok g c in
-    on_ok_weaker c.hear.result
-    (heard_answered g.I.ChangeItem.telling c.args.self.now c.hear.new.self (order.Media c.args.who.now c.args.length) (happening.Media c.in_ok-serial.serial (to_z w64 (of_z w64 c.args.length))) (drop (length c.args.out.now) c.hear.new.out) (is_heard g at.After-hear (kind g at.After-kind)) refl) c.hear.ensures.ok
+pub returns : goal.returns
+returns g c =
+    let at = goal.at.returns g c in
+    answered_as_heard g.I.ChangeItem.telling g.T.Table.counts (order.Media c.args.who.now c.args.length) (happening.Media c.in_ok-serial.serial (to_z w64 (of_z w64 c.args.length))) c.hear.result c.args.self.now c.hear.new.self c.args.out.now
+    c.hear.new.out c.args.steps.now c.hear.new.steps (is_heard g at.After-hear (kind g at.After-kind)) refl refl refl c.hear.ensures
 
-pub returns-clause-refused : goal.returns-clause-refused
-returns-clause-refused g c =
-    let at = goal.at.returns-clause-refused g c in
-    let what = happening.Media c.in_ok-serial.serial (to_z w64 (of_z w64 c.args.length)) in
-    let asked = order.Media c.args.who.now c.args.length in
-    IfErr-weaker c.hear.result (IsNotHeard c.args.self.now what) (Refuses formats c.args.self.now asked) (λ r none. not_heard c.args.self.now asked what r (is_heard g at.After-hear (kind g at.After-kind)) none) c.hear.ensures.refused
+pub returns-in_err-serial : goal.returns-in_err-serial
+returns-in_err-serial g c =
+    refused_at_once g.I.ChangeItem.telling g.T.Table.counts (order.Media c.args.who.now c.args.length) c.from_residual.result c.args.self.now c.args.out.now c.args.steps.now c.from_residual.ensures.0 (search rules)
 
-pub returns-clause-bounded : goal.returns-clause-bounded
-returns-clause-bounded g c =
-    bounded_then g.I.ChangeItem.telling c.hear.result g.T.Table.counts c.args.self.now c.hear.new.self (order.Media c.args.who.now c.args.length) (drop (length c.args.out.now) c.hear.new.out) (c.hear.new.steps - c.args.steps.now) (returns-clause-ok g c)
-    c.hear.ensures.most c.hear.ensures.least (c.hear.ensures.free (told_where g.T.Table.counts (most_number c.args.self.now (order.Media c.args.who.now c.args.length))))
-
-pub returns-in_err-serial-clause-bounded : goal.returns-in_err-serial-clause-bounded
-returns-in_err-serial-clause-bounded g c = bounded_at_once c.from_residual.result g.T.Table.counts c.args.self.now (order.Media c.args.who.now c.args.length) c.args.steps.now c.from_residual.ensures.0
-
-pub returns-then-not-is_continuous-clause-bounded : goal.returns-then-not-is_continuous-clause-bounded
-returns-then-not-is_continuous-clause-bounded g c = bounded_at_once (Err refusal.NotContinuous) g.T.Table.counts c.args.self.now (order.Media c.args.who.now c.args.length) c.args.steps.now refl
+pub returns-then-not-is_continuous : goal.returns-then-not-is_continuous
+returns-then-not-is_continuous g c =
+    let h = c.in_ok-serial.ensures.ok in
+    refused_at_once g.I.ChangeItem.telling g.T.Table.counts (order.Media c.args.who.now c.args.length) (Err refusal.NotContinuous) c.args.self.now c.args.out.now c.args.steps.now refl
+    (media_refused c.args.self.now c.args.who.now c.args.length h.0 h.1 (ap is_continuous (sym (kind g (goal.at.returns-then-not-is_continuous g c).After-kind)) ∙ sym c.is_continuous.ensures ∙ c.if-not-is_continuous.true))

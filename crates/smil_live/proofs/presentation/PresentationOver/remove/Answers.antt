@@ -14,12 +14,12 @@ use Rattle.smil_live.proofs.presentation.PresentationOver.remove.Goals as goal
 use Rattle.smil_live.proofs.presentation.PresentationOver.remove.Goals.{After-take_edited}
 
 pub take_edited-requires : goal.take_edited-requires
-take_edited-requires g c = subst (λ (x : Site). IsMade c.args.self.now.document x c.in_ok-edited.edited) (sym c.site-site.ensures) (edit_made c.args.self.now (order.Remove c.args.who.now) c.in_ok-edited.edited refl c.in_ok-edited.ensures.ok)
+take_edited-requires g c = subst (λ (x : Site). IsMade c.args.self.now.document x c.in_ok-edited.edited.tree) (sym c.in_ok-edited.ensures.site) (edit_made c.args.self.now (order.Remove c.args.who.now) c.in_ok-edited.edited.tree refl c.in_ok-edited.ensures.ok)
 
 answered : (g : Over) (c : After-take_edited g) → IsAnswered g.I.ChangeItem.telling c.take_edited.result g.T.Table.counts c.args.self.now c.take_edited.new.self (order.Remove c.args.who.now) c.args.out.now c.take_edited.new.out (c.take_edited.new.steps - c.args.steps.now)
 answered g c =
-    edit_answered g.I.ChangeItem.telling c.take_edited.result g.T.Table.counts c.args.self.now c.take_edited.new.self (order.Remove c.args.who.now) c.in_ok-edited.edited c.site-site.result c.args.out.now c.take_edited.new.out (c.take_edited.new.steps - c.args.steps.now) refl
-    c.in_ok-edited.ensures.ok c.site-site.ensures c.take_edited.ensures.ok c.take_edited.ensures.most c.take_edited.ensures.least c.take_edited.ensures.refused
+    edit_answered g.I.ChangeItem.telling c.take_edited.result g.T.Table.counts c.args.self.now c.take_edited.new.self (order.Remove c.args.who.now) c.in_ok-edited.edited.tree c.in_ok-edited.edited.site c.args.out.now c.take_edited.new.out (c.take_edited.new.steps - c.args.steps.now) refl
+    c.in_ok-edited.ensures.ok c.in_ok-edited.ensures.site c.take_edited.ensures.ok c.take_edited.ensures.most c.take_edited.ensures.least c.take_edited.ensures.refused
 
 pub returns-clause-ok : goal.returns-clause-ok
 returns-clause-ok g c = (answered g (goal.at.returns-clause-ok g c).After-take_edited).ok

@@ -13,12 +13,12 @@ pub edited_node-serial-requires : goal.edited_node-serial-requires
 edited_node-serial-requires g c =
     let same : c.tree.result.now ≡ c.args.self.now.document = c.tree.ensures ∙ ap (λ (q : Presentation). q.document) c.self.view_is in
     subst (λ (x : Document). IsMade x c.args.site c.tree-2.result.now) (sym same)
-    (subst (λ (x : Document). IsMade c.args.self.now.document c.args.site x) (sym c.tree-2.ensures) c.requires)
+    (subst (λ (x : Document). IsMade c.args.self.now.document c.args.site x) (sym c.tree-2.ensures) c.requires.made)
 
 pub returns : goal.returns
 returns g c =
     let p = c.args.self.now in
-    let d = document_of c.args.graph.now in
+    let d = document_of c.args.revised.now.graph in
     let at = c.args.site in
     let same : c.tree.result.now ≡ p.document = c.tree.ensures ∙ ap (λ (q : Presentation). q.document) c.self.view_is in
     let o = time_parent (site_nodes p.document d at) (site_serial p.document at) in

@@ -10,7 +10,7 @@ pub returns-in-Old : goal.returns-in-Old
 returns-in-Old g c same_attrs =
     let same : c.tree.result.now ≡ c.args.self.now.document = c.tree.ensures ∙ ap (λ (p : Presentation). p.document) c.self.view_is in
     let state = subst IsState c.self.view_is c.self.invariant.shown_is.state in
-    let found = c.have_same_attrs.ensures same_attrs in
+    let found = c.have_same_attrs.ensures.0 same_attrs in
     stays c.args.self.now.document c.args.edited.now c.in-Old.serial found.0 found.1 state.document.numbered
     (subst (λ (x : Site). IsMade c.args.self.now.document x c.args.edited.now) c.in-Old.is c.requires)
     (ap (λ (d : Document). node_at d.nodes c.in-Old.serial) (sym same) ∙ found.2) found.3 found.4

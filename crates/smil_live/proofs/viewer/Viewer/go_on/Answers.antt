@@ -4,8 +4,10 @@ use Rattle.std.specs.Prelude.{OnOk, IfErr}
 use Rattle.std.proofs.lemmas.Int.{to_z-of_z}
 use Rattle.smil_model.specs.shown.Orders.{IsState, Presentation}
 use Rattle.smil_diary.specs.Refusals.{of_book}
+use Rattle.smil_report.proofs.Growing.{begins_itself}
 use Rattle.smil_tree.proofs.ResultClauses.{on_err}
 use Rattle.smil_cells.specs.CellsState.{with_logged}
+use Rattle.smil_live.specs.Answered.{IsMoved}
 use Rattle.smil_live.specs.Moves.{IsShownAt, IsTooFull, MayMove, changes_by, made, told_of}
 use Rattle.smil_live.specs.declared.moves.Move.{Move}
 use Rattle.smil_live.specs.declared.moves.Move.TheVariants as move
@@ -17,21 +19,21 @@ use Rattle.smil_live.proofs.viewer.Viewer.go_on.Given.{Over}
 use Rattle.smil_live.proofs.viewer.Viewer.go_on.Goals as goal
 use Rattle.smil_live.proofs.viewer.Viewer.go_on.Goals.{In_ok-hear-in-Hear}
 
-pub returns-in-Pass-clause-told : goal.returns-in-Pass-clause-told
-returns-in-Pass-clause-told g c =
-    let p = c.args.self.now.cells.presentation in
+pub returns-in-Pass : goal.returns-in-Pass
+returns-in-Pass g c =
     let to = c.in-Pass.to in
     let fits : SFits w64 to = search rules in
     let is : c.args.step ≡ move.Pass (to_z w64 (of_z w64 to)) = c.in-Pass.is ∙ ap move.Pass (sym (to_z-of_z w64 to fits)) in
-    subst (λ (m : Move). OnOk c.pass_through.result (c.pass_through.new.out ≡ c.args.out.now ++ told_of g.I.ChangeItem.telling p (changes_by p m))) (sym is) c.pass_through.ensures.told
+    subst (λ (m : Move). IsMoved g.I.ChangeItem.telling g.T.Table.counts m c.pass_through.result c.args.self.now.cells c.pass_through.new.self.cells c.args.self.now.seen c.pass_through.new.self.seen c.args.out.now c.pass_through.new.out c.args.steps.now c.pass_through.new.steps) (sym is)
+    c.pass_through.ensures
 
-pub returns-in-Settle-clause-told : goal.returns-in-Settle-clause-told
-returns-in-Settle-clause-told g c =
-    let p = c.args.self.now.cells.presentation in
+pub returns-in-Settle : goal.returns-in-Settle
+returns-in-Settle g c =
     let to = c.in-Settle.to in
     let fits : SFits w64 to = search rules in
     let is : c.args.step ≡ move.Settle (to_z w64 (of_z w64 to)) = c.in-Settle.is ∙ ap move.Settle (sym (to_z-of_z w64 to fits)) in
-    subst (λ (m : Move). OnOk c.settle_once.result (c.settle_once.new.out ≡ c.args.out.now ++ told_of g.I.ChangeItem.telling p (changes_by p m))) (sym is) c.settle_once.ensures.told
+    subst (λ (m : Move). IsMoved g.I.ChangeItem.telling g.T.Table.counts m c.settle_once.result c.args.self.now.cells c.settle_once.new.self.cells c.args.self.now.seen c.settle_once.new.self.seen c.args.out.now c.settle_once.new.out c.args.steps.now c.settle_once.new.steps) (sym is)
+    c.settle_once.ensures.moved
 
 pub hear-requires-clause-settled : goal.hear-requires-clause-settled
 hear-requires-clause-settled g c = λ sound. nothing_before c.args.self.now.cells c.requires.shown.settled
@@ -46,31 +48,38 @@ heard_state g c =
 pub put_touched-requires-clause-state : goal.put_touched-requires-clause-state
 put_touched-requires-clause-state g c = heard_state g (goal.at.put_touched-requires-clause-state g c).In_ok-hear-in-Hear
 
-pub returns-in_ok-hear-in-Hear-clause-ok : goal.returns-in_ok-hear-in-Hear-clause-ok
-returns-in_ok-hear-in-Hear-clause-ok g c =
-    let p = c.args.self.now.cells.presentation in
-    let state = heard_state g (goal.at.returns-in_ok-hear-in-Hear-clause-ok g c).In_ok-hear-in-Hear in
-    subst (λ (m : Move). OnOk c.put_touched.result (IsShownAt (made p m) c.hear.new.self c.put_touched.new.seen)) (sym c.in-Hear.is)
-    (shown_behind c.put_touched.result (with_logged p c.in-Hear.entry) c.hear.new.self c.put_touched.new.seen c.in_ok-hear-in-Hear.ensures.state state c.in_ok-hear-in-Hear.ensures.goes_on.sound c.in_ok-hear-in-Hear.ensures.settled c.put_touched.ensures.views)
+pub returns-in_ok-hear-in-Hear : goal.returns-in_ok-hear-in-Hear
+returns-in_ok-hear-in-Hear g c =
+    let s = c.args.self.now.cells in
+    let p = s.presentation in
+    let q = with_logged p c.in-Hear.entry in
+    let heard = c.in_ok-hear-in-Hear.ensures in
+    let put = c.put_touched.ensures in
+    let r = c.put_touched.result in
+    let tell = g.I.ChangeItem.telling in
+    let state = heard_state g (goal.at.returns-in_ok-hear-in-Hear g c).In_ok-hear-in-Hear in
+    record {
+      ok =
+          subst (λ (m : Move). OnOk r (IsShownAt (made p m) c.hear.new.self c.put_touched.new.seen)) (sym c.in-Hear.is)
+          (shown_behind r q c.hear.new.self c.put_touched.new.seen heard.state state heard.goes_on.sound heard.settled put.views);
+      told =
+          subst (λ (m : Move). OnOk r (c.put_touched.new.out ≡ c.args.out.now ++ told_of tell p (changes_by p m))) (sym c.in-Hear.is)
+          (told_behind tell r s c.hear.new.self q c.args.self.now.seen.views c.args.out.now c.put_touched.new.out heard.state refl c.requires.shown.views_are c.requires.shown.settled heard.settled put.told);
+      refused = search rules;
+      marked = search rules;
+      before_is = put.before;
+      begins = put.begins;
+      counted = search rules;
+      most = on_ok_always r heard.most;
+      least = on_ok_always r heard.least;
+    }
 
-pub returns-in_ok-hear-in-Hear-clause-told : goal.returns-in_ok-hear-in-Hear-clause-told
-returns-in_ok-hear-in-Hear-clause-told g c =
-    let p = c.args.self.now.cells.presentation in
-    subst (λ (m : Move). OnOk c.put_touched.result (c.put_touched.new.out ≡ c.args.out.now ++ told_of g.I.ChangeItem.telling p (changes_by p m))) (sym c.in-Hear.is)
-    (told_behind g.I.ChangeItem.telling c.put_touched.result c.args.self.now.cells c.hear.new.self (with_logged p c.in-Hear.entry) c.args.self.now.seen.views c.args.out.now c.put_touched.new.out c.in_ok-hear-in-Hear.ensures.state refl
-    c.requires.shown.views_are c.requires.shown.settled c.in_ok-hear-in-Hear.ensures.settled c.put_touched.ensures.told)
-
-pub returns-in_ok-hear-in-Hear-clause-most : goal.returns-in_ok-hear-in-Hear-clause-most
-returns-in_ok-hear-in-Hear-clause-most g c = on_ok_always c.put_touched.result c.in_ok-hear-in-Hear.ensures.most
-
-pub returns-in_ok-hear-in-Hear-clause-least : goal.returns-in_ok-hear-in-Hear-clause-least
-returns-in_ok-hear-in-Hear-clause-least g c = on_ok_always c.put_touched.result c.in_ok-hear-in-Hear.ensures.least
-
-pub returns-in_err-hear-in-Hear-clause-refused : goal.returns-in_err-hear-in-Hear-clause-refused
-returns-in_err-hear-in-Hear-clause-refused g c =
+pub returns-in_err-hear-in-Hear : goal.returns-in_err-hear-in-Hear
+returns-in_err-hear-in-Hear g c =
     let s = c.args.self.now.cells in
     let q = with_logged s.presentation c.in-Hear.entry in
     let fault = c.in_err-hear-in-Hear.field-0.0 in
+    let refused =
     subst (λ (m : Move). IfErr c.from_residual.result (IsTooFull (made s.presentation m))) (sym c.in-Hear.is)
-    (on_err (IsTooFull q) c.from_residual.result (of_book fault) c.from_residual.ensures.1
-    (refused_as q q s fault c.requires.shown.sound c.in_err-hear-in-Hear.ensures.full (λ none. none)))
+    (on_err (IsTooFull q) c.from_residual.result (of_book fault) c.from_residual.ensures.1 (refused_as q q s fault c.requires.shown.sound c.in_err-hear-in-Hear.ensures.full (λ none. none))) in
+    record { ok = search rules; told = search rules; refused = refused; marked = search rules; before_is = refl; begins = begins_itself c.args.out.now; counted = search rules; most = search rules; least = search rules }

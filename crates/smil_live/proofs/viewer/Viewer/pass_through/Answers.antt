@@ -1,4 +1,4 @@
-use Rattle.std.proofs.Common.{◌≡◌, refl, sym, ◌∙◌, subst, arith, ◌-◌, ◌++◌, ◌≤ℤ◌, ℤ, pos, nat_abs, w64, to_z, of_z}
+use Rattle.std.proofs.Common.{rules, ◌≡◌, refl, sym, ◌∙◌, subst, arith, ◌-◌, ◌++◌, ◌≤ℤ◌, ℤ, pos, nat_abs, w64, to_z, of_z}
 use Rattle.std.specs.Prelude.{OnOk}
 use Rattle.std.proofs.lemmas.Int.{ints, to_z-of_z}
 use Rattle.std.proofs.lemmas.Result.{on_ok_weaker}
@@ -46,23 +46,27 @@ settle_once-requires-clause-may g c =
     let i = (goal.at.settle_once-requires-clause-may g c).In-Some in
     subst (λ (x : ℤ). (pos c.loop-due.self.cells.presentation.now ≤ℤ x) × (x ≤ℤ HORIZON)) (sym (whole g i)) (later g i, within g i)
 
-pub returns-in_err-settle_once-clause-refused : goal.returns-in_err-settle_once-clause-refused
-returns-in_err-settle_once-clause-refused g c =
+pub returns-in_err-settle_once : goal.returns-in_err-settle_once
+returns-in_err-settle_once g c =
     let p = c.args.self.now.cells.presentation in
     let s = c.loop-due.self.cells in
     let given = c.in_err-settle_once.field-0.0 in
+    let v = c.loop-due.invariant in
+    let e = c.in_err-settle_once.ensures.moved in
+    let refused =
     on_err (IsTooFull (as_of p (nat_abs c.args.to))) c.from_residual.result given c.from_residual.ensures.1
     (subst (λ (x : ℤ). IsTooFull (as_of p (nat_abs x)) given) (to_z-of_z w64 c.args.to c.ranges.to)
-    (too_full_then c.loop-due.invariant.0 c.in-Some.ensures.first c.in-Some.ensures.within given
-    (subst (λ (x : ℤ). IsTooFull (as_of s.presentation (nat_abs x)) given) (whole g (goal.at.returns-in_err-settle_once-clause-refused g c).In-Some) c.in_err-settle_once.ensures.refused)))
+    (too_full_then v.0 c.in-Some.ensures.first c.in-Some.ensures.within given
+    (subst (λ (x : ℤ). IsTooFull (as_of s.presentation (nat_abs x)) given) (whole g (goal.at.returns-in_err-settle_once g c).In-Some) e.refused))) in
+    record { ok = search rules; told = search rules; refused = refused; marked = e.marked ∙ v.3; before_is = e.before_is ∙ v.4; begins = begins_by c.args.out.now c.loop-due.out c.settle_once.new.out v.5 e.begins; counted = search rules; most = search rules; least = search rules }
 
 -- the standing at that moment, and what is told there
 there : (g : Over) (c : In_ok-settle_once g) → to_z w64 (of_z w64 c.in-Some.due) ≡ c.in-Some.due → IsShownAt (as_of c.loop-due.self.cells.presentation (nat_abs c.in-Some.due)) c.settle_once.new.self.cells c.settle_once.new.self.seen
     × (c.settle_once.new.out ≡ c.loop-due.out ++ told_of g.I.ChangeItem.telling c.loop-due.self.cells.presentation (changes_between c.loop-due.self.cells.presentation (as_of c.loop-due.self.cells.presentation (nat_abs c.in-Some.due))))
 there g c whole =
     let s = c.loop-due.self.cells in (
-      subst (λ (x : ℤ). IsShownAt (as_of s.presentation (nat_abs x)) c.settle_once.new.self.cells c.settle_once.new.self.seen) whole c.in_ok-settle_once.ensures.ok,
-      subst (λ (x : ℤ). c.settle_once.new.out ≡ c.loop-due.out ++ told_of g.I.ChangeItem.telling s.presentation (changes_between s.presentation (as_of s.presentation (nat_abs x)))) whole c.in_ok-settle_once.ensures.told,
+      subst (λ (x : ℤ). IsShownAt (as_of s.presentation (nat_abs x)) c.settle_once.new.self.cells c.settle_once.new.self.seen) whole c.in_ok-settle_once.ensures.moved.ok,
+      subst (λ (x : ℤ). c.settle_once.new.out ≡ c.loop-due.out ++ told_of g.I.ChangeItem.telling s.presentation (changes_between s.presentation (as_of s.presentation (nat_abs x)))) whole c.in_ok-settle_once.ensures.moved.told,
     )
 
 pub loop-due-smaller : goal.loop-due-smaller
@@ -76,39 +80,44 @@ loop-due-preserved g c =
     let at = goal.at.loop-due-preserved g c in
     let due = there g at.In_ok-settle_once (whole g at.In-Some) in
     let v = c.loop-due.invariant in
-    let e = c.in_ok-settle_once.ensures in (
+    let e = c.in_ok-settle_once.ensures.moved in (
       passes_on v.0 c.in-Some.ensures.first c.in-Some.ensures.within due.0 due.1,
       refl,
       v.2,
       e.marked ∙ v.3,
-      e.before ∙ v.4,
+      e.before_is ∙ v.4,
       begins_by c.args.out.now c.loop-due.out c.settle_once.new.out v.5 e.begins,
       counted_then g.T.Table.counts c.args.self.now.cells c.loop-due.self.cells c.settle_once.new.self.cells _ c.settle_once.new.self.seen c.args.steps.now c.loop-due.steps c.settle_once.new.steps v.0.presentation_is v.6 e.counted e.ok
-          e.goes_on e.most e.least,
+          c.in_ok-settle_once.ensures.goes_on e.most e.least,
     )
-
-pub returns-clause-told : goal.returns-clause-told
-returns-clause-told g c =
-    let v = c.loop-due.invariant in
-    let p = c.args.self.now.cells.presentation in
-    let to = to_z w64 (of_z w64 c.args.to) in
-    on_ok_weaker c.settle_once-2.result
-    (λ (q : c.settle_once-2.new.out ≡ c.loop-due.out ++ told_of g.I.ChangeItem.telling c.loop-due.self.cells.presentation (changes_between c.loop-due.self.cells.presentation (as_of c.loop-due.self.cells.presentation (nat_abs to)))).
-    subst (λ (x : ℤ). c.settle_once-2.new.out ≡ c.args.out.now ++ told_of g.I.ChangeItem.telling p (changes_through p (nat_abs x - p.now))) (to_z-of_z w64 c.args.to c.ranges.to)
-    (arrives v.0 c.in_default.ensures.none q))
-    c.settle_once-2.ensures.told
 
 counted : (g : Over) (c : After-settle_once-2 g) → OnOk c.settle_once-2.result (IsCounted g.T.Table.counts c.args.self.now.cells c.settle_once-2.new.self.cells c.args.steps.now c.settle_once-2.new.steps)
 counted g c =
     let v = c.loop-due.invariant in
-    let e = c.settle_once-2.ensures in
+    let e = c.settle_once-2.ensures.moved in
     counted_last c.settle_once-2.result g.T.Table.counts c.args.self.now.cells c.loop-due.self.cells c.settle_once-2.new.self.cells _ c.settle_once-2.new.self.seen c.args.steps.now c.loop-due.steps c.settle_once-2.new.steps
-    v.0.presentation_is v.6 e.counted e.ok e.goes_on e.most e.least
+    v.0.presentation_is v.6 e.counted e.ok c.settle_once-2.ensures.goes_on e.most e.least
 
-pub returns-clause-most : goal.returns-clause-most
-returns-clause-most g c =
-    on_ok_weaker c.settle_once-2.result (λ (is : IsCounted g.T.Table.counts c.args.self.now.cells c.settle_once-2.new.self.cells c.args.steps.now c.settle_once-2.new.steps). is.most) (counted g c)
-
-pub returns-clause-least : goal.returns-clause-least
-returns-clause-least g c =
-    on_ok_weaker c.settle_once-2.result (λ (is : IsCounted g.T.Table.counts c.args.self.now.cells c.settle_once-2.new.self.cells c.args.steps.now c.settle_once-2.new.steps). is.least) (counted g c)
+pub returns : goal.returns
+returns g c =
+    let v = c.loop-due.invariant in
+    let p = c.args.self.now.cells.presentation in
+    let to = to_z w64 (of_z w64 c.args.to) in
+    let r = c.settle_once-2.result in
+    let e = c.settle_once-2.ensures.moved in
+    record {
+      ok = search rules;
+      told =
+          on_ok_weaker r
+          (λ (q : c.settle_once-2.new.out ≡ c.loop-due.out ++ told_of g.I.ChangeItem.telling c.loop-due.self.cells.presentation (changes_between c.loop-due.self.cells.presentation (as_of c.loop-due.self.cells.presentation (nat_abs to)))).
+          subst (λ (x : ℤ). c.settle_once-2.new.out ≡ c.args.out.now ++ told_of g.I.ChangeItem.telling p (changes_through p (nat_abs x - p.now))) (to_z-of_z w64 c.args.to c.ranges.to)
+          (arrives v.0 c.in_default.ensures.none q))
+          e.told;
+      refused = search rules;
+      marked = e.marked ∙ v.3;
+      before_is = e.before_is ∙ v.4;
+      begins = begins_by c.args.out.now c.loop-due.out c.settle_once-2.new.out v.5 e.begins;
+      counted = search rules;
+      most = on_ok_weaker r (λ (is : IsCounted g.T.Table.counts c.args.self.now.cells c.settle_once-2.new.self.cells c.args.steps.now c.settle_once-2.new.steps). is.most) (counted g c);
+      least = on_ok_weaker r (λ (is : IsCounted g.T.Table.counts c.args.self.now.cells c.settle_once-2.new.self.cells c.args.steps.now c.settle_once-2.new.steps). is.least) (counted g c);
+    }
