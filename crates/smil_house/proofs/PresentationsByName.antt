@@ -1,9 +1,8 @@
 -- The presentation of a name, and another in its place.
-use Rattle.std.proofs.Common.{◌≡◌, ℕ, Bool, List, length, refl, sym, ap, ◌∙◌}
+use Rattle.std.proofs.Common.{◌≡◌, ℕ, List, length, refl, sym, ap, ◌∙◌}
 use Rattle.std.specs.Prelude.{Option, Some, option_and_then, slice_get, slice_set, slice_index_or, bytes_eq}
 use Rattle.std.proofs.lemmas.Option.{slice_get_read}
 use Rattle.std.proofs.lemmas.List.Quantifiers.{position-Some}
-use Rattle.smil_model.specs.declared.order.Order.{Order}
 use Rattle.smil_model.specs.shown.Orders.{Formats}
 use Rattle.smil_house.specs.declared.house.NamedPlayer.{NamedPlayer}
 use Rattle.smil_house.specs.House.{IsAt, IsReplaced, named, place_of}
@@ -24,13 +23,12 @@ pub named_at : {P : Type 0} {name : List ℕ} {held : List (NamedPlayer P)} {pla
 named_at {held = held} at = ap (option_and_then (slice_get held)) at.found ∙ at.here
 
 -- another player put in its place
-pub turned_to : {P : Type 0} (formats : P → Formats) (takes : P → Order → Bool) {name : List ℕ} (items : List (NamedPlayer P)) {held : List (NamedPlayer P)} {place : ℕ} {h : NamedPlayer P} (player : P)
-    → items ≡ held → IsAt name held place h → formats player ≡ formats h.player → takes player ≡ takes h.player
-    → IsReplaced formats takes name held (slice_set items place (record { name = h.name; player = player })) place h (record { name = h.name; player = player })
-turned_to formats takes items {place = place} {h = h} player same at told taken = record {
+pub turned_to : {P : Type 0} (formats : P → Formats) {name : List ℕ} (items : List (NamedPlayer P)) {held : List (NamedPlayer P)} {place : ℕ} {h : NamedPlayer P} (player : P)
+    → items ≡ held → IsAt name held place h → formats player ≡ formats h.player
+    → IsReplaced formats name held (slice_set items place (record { name = h.name; player = player })) place h (record { name = h.name; player = player })
+turned_to formats items {place = place} {h = h} player same at told = record {
   at = at;
   new_is = ap (λ xs. slice_set xs place (record { name = h.name; player = player })) same;
   name_is = refl;
   formats_are = told;
-  takes_are = taken;
 }

@@ -1,5 +1,5 @@
 -- Presentations under their names.
-use Rattle.std.specs.Prelude.{◌≡◌, ℕ, ℤ, pos, ◌⊎◌, List, ◌+◌, ◌++◌, drop, take, length, Bool, true, Option, Some, None, Result, Ok, Err, bytes_eq, nat_lt, if◌then◌else◌, slice_get, slice_set, is_some, option_map, option_and_then}
+use Rattle.std.specs.Prelude.{◌≡◌, ℕ, ℤ, pos, ◌⊎◌, List, ◌+◌, ◌++◌, drop, take, length, Option, Some, None, Result, Ok, Err, bytes_eq, nat_lt, if◌then◌else◌, slice_get, slice_set, is_some, option_map, option_and_then}
 use Rattle.std.specs.List.{position}
 use Rattle.smil_model.specs.declared.limits.TheConstants.{PRESENTATIONS}
 use Rattle.smil_model.specs.declared.order.Order.{Order}
@@ -35,40 +35,31 @@ load_refusal name held =
 abbrev pub without : {P : Type 0} → ℕ → List (NamedPlayer P) → List (NamedPlayer P)
 without place held = take place held ++ drop (place + 1) held
 
--- the presentation of this name, where there is one, takes the order
-abbrev pub Takes :
-    {P : Type 0} → (P → Order → Bool) → List ℕ → Order → List (NamedPlayer P) → Type 0
-Takes {P = P} takes name given held =
-    (place : ℕ) (h : NamedPlayer P) → place_of name held ≡ Some place
-    → slice_get held place ≡ Some h
-    → takes h.player given ≡ true
-
 -- the presentation at a place, with its name
 pub record IsAt {P : Type 0} (name : List ℕ) (held : List (NamedPlayer P)) (place : ℕ)
     (h : NamedPlayer P) : Type 0 where
   pub found : place_of name held ≡ Some place
   pub here : slice_get held place ≡ Some h
 
--- the player at a place is another one, by this name and with these formats and orders;
+-- the player at a place is another one, by this name and with these formats;
 -- all others are as before
 pub record IsReplaced
-    {P : Type 0} (formats : P → Formats) (takes : P → Order → Bool) (name : List ℕ)
-    (old new : List (NamedPlayer P)) (place : ℕ) (before after : NamedPlayer P) : Type 0 where
+    {P : Type 0} (formats : P → Formats) (name : List ℕ) (old new : List (NamedPlayer P))
+    (place : ℕ) (before after : NamedPlayer P) : Type 0 where
   pub at : IsAt name old place before
   pub new_is : new ≡ slice_set old place after
   pub name_is : after.name ≡ before.name
   pub formats_are : formats after.player ≡ formats before.player
-  pub takes_are : takes after.player ≡ takes before.player
 
 -- the presentation of this name has answered an order, by this text and so many evaluations,
 -- and is at this moment
 pub record IsAnsweredBy {P : Type 0} (formats : P → Formats) (presentation : P → Presentation)
-    (takes : P → Order → Bool) (least most : P → Order → Option ℕ) (name : List ℕ) (given : Order)
+    (least most : P → Order → Option ℕ) (name : List ℕ) (given : Order)
     (old new : List (NamedPlayer P)) (text : List ℕ) (rise : ℕ) (moment : ℤ) : Type 0 where
   pub place : ℕ
   pub before : NamedPlayer P
   pub after : NamedPlayer P
-  pub turned : IsReplaced formats takes name old new place before after
+  pub turned : IsReplaced formats name old new place before after
   pub accepted : Accepts (formats before.player) (presentation before.player)
       (presentation after.player) given text
   pub moment_is : moment ≡ pos (presentation after.player).now
@@ -78,13 +69,13 @@ pub record IsAnsweredBy {P : Type 0} (formats : P → Formats) (presentation : P
 -- the presentation of this name has answered an order, by these records and so many evaluations,
 -- and is at this moment
 pub record IsRecordedBy {P : Type 0} (formats : P → Formats) (presentation : P → Presentation)
-    (takes : P → Order → Bool) (least most : P → Order → Option ℕ) (name : List ℕ) (given : Order)
+    (least most : P → Order → Option ℕ) (name : List ℕ) (given : Order)
     (old new : List (NamedPlayer P)) (changes : List Change) (rise : ℕ) (moment : ℤ)
     : Type 0 where
   pub place : ℕ
   pub before : NamedPlayer P
   pub after : NamedPlayer P
-  pub turned : IsReplaced formats takes name old new place before after
+  pub turned : IsReplaced formats name old new place before after
   pub accepted : Tells as_records (formats before.player) (presentation before.player)
       (presentation after.player) given changes
   pub moment_is : moment ≡ pos (presentation after.player).now
@@ -93,17 +84,18 @@ pub record IsRecordedBy {P : Type 0} (formats : P → Formats) (presentation : P
 
 -- the presentation of this name is as it was
 pub record IsKeptBy {P : Type 0} (formats : P → Formats) (presentation : P → Presentation)
-    (takes : P → Order → Bool) (name : List ℕ) (old new : List (NamedPlayer P)) : Type 0 where
+    (name : List ℕ) (old new : List (NamedPlayer P)) : Type 0 where
   pub place : ℕ
   pub before : NamedPlayer P
   pub after : NamedPlayer P
-  pub turned : IsReplaced formats takes name old new place before after
+  pub turned : IsReplaced formats name old new place before after
   pub same : presentation after.player ≡ presentation before.player
 
-abbrev pub AreKept : {P : Type 0} → (P → Formats) → (P → Presentation) → (P → Order → Bool) → List ℕ
+-- all are as they were
+abbrev pub AreKept : {P : Type 0} → (P → Formats) → (P → Presentation) → List ℕ
     → List (NamedPlayer P) → List (NamedPlayer P) → Type 0
-AreKept formats presentation takes name old new =
-    (new ≡ old) ⊎ IsKeptBy formats presentation takes name old new
+AreKept formats presentation name old new =
+    (new ≡ old) ⊎ IsKeptBy formats presentation name old new
 
 -- it refuses the order
 pub record IsRefusedBy {P : Type 0} (formats : P → Formats) (presentation : P → Presentation)

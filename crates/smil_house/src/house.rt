@@ -4,7 +4,7 @@ ghost use Rattle.std.specs.Prelude.{◌≡◌, ℕ, ◌≤◌, ◌-◌, ◌++◌
 ghost use Rattle.smil_model.specs.declared.order.Refusal.TheVariants as refusal;
 ghost use Rattle.smil_model.specs.shown.Answers.{IsGiven};
 ghost use Rattle.smil_report.specs.Tellings.{is_telling};
-ghost use Rattle.smil_house.specs.House.{place_of, load_refusal, moment_of, named, without, AreKept, IsAnsweredBy, IsRecordedBy, IsRefused, Takes};
+ghost use Rattle.smil_house.specs.House.{place_of, load_refusal, moment_of, named, without, AreKept, IsAnsweredBy, IsRecordedBy, IsRefused};
 ghost use Rattle.smil_house.specs.Marks.{mark_of};
 ghost use Rattle.smil_house.specs.Next.{NothingChangesBefore, next_in};
 ghost use Rattle.smil_house.specs.Screen.{element_in, found_in};
@@ -96,16 +96,14 @@ impl<P: Player + Drop> House<P> {
         steps: &mut Steps<L>,
     ) -> Result<i64, Refusal>
         requires given { IsGiven order.now }
-        requires taken { Takes P.takes name.now order.now self.old }
-        ensures ok { IfOk result (IsAnsweredBy P.formats P.presentation P.takes P.least_steps
-            P.most_steps name.now order.now self.old self.new (drop (length out.old) out.new)
+        ensures ok { IfOk result (IsAnsweredBy P.formats P.presentation P.least_steps P.most_steps
+            name.now order.now self.old self.new (drop (length out.old) out.new)
             (steps.new - steps.old)) }
         ensures appended { OnOk result (out.new ≡ out.old ++ drop (length out.old) out.new) }
         ensures refused { IfErr result
             (IsRefused P.formats P.presentation P.most_steps name.now order.now self.old
             (steps.new - steps.old)) }
-        ensures kept { OnErr result (AreKept P.formats P.presentation P.takes name.now self.old
-            self.new) }
+        ensures kept { OnErr result (AreKept P.formats P.presentation name.now self.old self.new) }
         ensures text { OnErr result (out.new ≡ out.old) }
         ensures counted { steps.old ≤ steps.new }
     {
@@ -127,17 +125,15 @@ impl<P: Player + Drop> House<P> {
         steps: &mut Steps<L>,
     ) -> Result<i64, Refusal>
         requires given { IsGiven order.now }
-        requires taken { Takes P.takes name.now order.now self.old }
         requires changes { is_telling order.now ≡ false }
-        ensures ok { IfOk result (IsRecordedBy P.formats P.presentation P.takes P.least_steps
-            P.most_steps name.now order.now self.old self.new (drop (length out.old) out.new)
+        ensures ok { IfOk result (IsRecordedBy P.formats P.presentation P.least_steps P.most_steps
+            name.now order.now self.old self.new (drop (length out.old) out.new)
             (steps.new - steps.old)) }
         ensures appended { OnOk result (out.new ≡ out.old ++ drop (length out.old) out.new) }
         ensures refused { IfErr result
             (IsRefused P.formats P.presentation P.most_steps name.now order.now self.old
             (steps.new - steps.old)) }
-        ensures kept { OnErr result (AreKept P.formats P.presentation P.takes name.now self.old
-            self.new) }
+        ensures kept { OnErr result (AreKept P.formats P.presentation name.now self.old self.new) }
         ensures records { OnErr result (out.new ≡ out.old) }
         ensures counted { steps.old ≤ steps.new }
     {

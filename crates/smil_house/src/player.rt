@@ -1,6 +1,6 @@
 //! What keeps a presentation and answers orders to it.
 
-ghost use Rattle.std.specs.Prelude.{◌≡◌, ℕ, ℤ, pos, OnOk, OnErr, IfOk, IfErr, ◌++◌, List, ◌≤◌, ◌-◌, Option, Bool, true, false, drop, length, slice_get};
+ghost use Rattle.std.specs.Prelude.{◌≡◌, ℕ, ℤ, pos, OnOk, OnErr, IfOk, IfErr, ◌++◌, List, ◌≤◌, ◌-◌, Option, false, drop, length, slice_get};
 ghost use Rattle.smil_model.specs.shown.Orders.{Formats, Presentation};
 ghost use Rattle.smil_model.specs.shown.Answers.{IsGiven, Accepts, Refuses, AtLeast, AtMost, MayEvaluate};
 ghost use Rattle.smil_model.specs.declared.order.Order.{Order as GivenOrder};
@@ -16,14 +16,12 @@ use smil_report::Changes;
 use std::sync::ledger::Ledger;
 
 /// A presentation that answers orders. Its meanings are the formats in which it reads values and
-/// writes its outline, its state, the orders that it takes, and, where it tells them, for an order
-/// in its state the least and the greatest number of interval evaluations.
+/// writes its outline, its state, and, where it tells them, for an order in its state the least
+/// and the greatest number of interval evaluations.
 pub trait Player {
     ghost formats: { Self → Formats };
 
     ghost presentation: { Self → Presentation };
-
-    ghost takes: { Self → GivenOrder → Bool };
 
     ghost least_steps: { Self → GivenOrder → Option ℕ };
 
@@ -62,7 +60,6 @@ pub trait Player {
         steps: &mut Steps<L>,
     ) -> Result<(), Refusal>
         requires given { IsGiven order.now }
-        requires taken { takes self.old order.now ≡ true }
         ensures ok { OnOk result (Accepts (formats self.old) (presentation self.old)
             (presentation self.new) order.now (drop (length out.old) out.new)) }
         ensures appended { OnOk result (out.new ≡ out.old ++ drop (length out.old) out.new) }
@@ -71,7 +68,6 @@ pub trait Player {
         ensures kept { OnErr result (presentation self.new ≡ presentation self.old) }
         ensures text { OnErr result (out.new ≡ out.old) }
         ensures formats { formats self.new ≡ formats self.old }
-        ensures takes { takes self.new ≡ takes self.old }
         ensures counted { steps.old ≤ steps.new }
         ensures least { OnOk result (AtLeast (least_steps self.old order.now)
             (steps.new - steps.old)) }
@@ -89,7 +85,6 @@ pub trait Player {
         steps: &mut Steps<L>,
     ) -> Result<(), Refusal>
         requires given { IsGiven order.now }
-        requires taken { takes self.old order.now ≡ true }
         requires changes { is_telling order.now ≡ false }
         ensures ok { OnOk result (Tells as_records (formats self.old) (presentation self.old)
             (presentation self.new) order.now (drop (length out.old) out.new)) }
@@ -99,7 +94,6 @@ pub trait Player {
         ensures kept { OnErr result (presentation self.new ≡ presentation self.old) }
         ensures records { OnErr result (out.new ≡ out.old) }
         ensures formats { formats self.new ≡ formats self.old }
-        ensures takes { takes self.new ≡ takes self.old }
         ensures counted { steps.old ≤ steps.new }
         ensures least { OnOk result (AtLeast (least_steps self.old order.now)
             (steps.new - steps.old)) }

@@ -87,9 +87,6 @@ the_formats p = formats
 abbrev pub itself : Presentation → Presentation
 itself p = p
 
-abbrev pub every : Presentation → Order → Bool
-every p order = true
-
 abbrev pub told_least : Presentation → Order → Option ℕ
 told_least p order = Some (least_number p order)
 
@@ -108,7 +105,7 @@ module _ (name : List ℕ) (order : Order) (so_far : SessionSoFar) (new : Presen
   holds = keeps.held
 
   -- the session in which another presentation has this name
-  pub turned-keeps : (place : ℕ) (before after : NamedPlayer Presentation) → IsReplaced the_formats every name house new place before after →
+  pub turned-keeps : (place : ℕ) (before after : NamedPlayer Presentation) → IsReplaced the_formats name house new place before after →
       Keeps (in_house so_far new) (with_state name after.player session)
   turned-keeps place before after turned = record {
     held = record {
@@ -123,7 +120,7 @@ module _ (name : List ℕ) (order : Order) (so_far : SessionSoFar) (new : Presen
 
   -- it is accepted
   pub made-ordered : (text told : List ℕ) (rise : ℕ) (moment : ℤ) → told ≡ text →
-      IsAnsweredBy the_formats itself every told_least told_most name order house new text rise moment →
+      IsAnsweredBy the_formats itself told_least told_most name order house new text rise moment →
       Makes (Ok tt) (record { told = told; last = ok_line number name moment }) (in_house so_far new) session (ordered_within limits session number name order)
   made-ordered text told rise moment is answered =
       let before : Presentation = answered.before.player in
@@ -141,7 +138,7 @@ module _ (name : List ℕ) (order : Order) (so_far : SessionSoFar) (new : Presen
       )
 
   -- all is kept where it is refused
-  kept-holds : AreKept the_formats itself every name house new → Holds new session
+  kept-holds : AreKept the_formats itself name house new → Holds new session
   kept-holds (inl same) = record { session_is = holds.session_is ∙ ap (map shown) (sym same); apart = subst AreApart (sym same) holds.apart }
   kept-holds (inr kept) =
       let turned = kept.turned in
@@ -149,11 +146,11 @@ module _ (name : List ℕ) (order : Order) (so_far : SessionSoFar) (new : Presen
       let new_is : new ≡ house = turned.new_is ∙ ap (λ h. slice_set house kept.place h) same ∙ set-same house kept.place kept.before turned.at.here in
       record { session_is = holds.session_is ∙ ap (map shown) (sym new_is); apart = subst AreApart (sym new_is) holds.apart }
 
-  pub kept-keeps : AreKept the_formats itself every name house new → Keeps (in_house so_far new) session
+  pub kept-keeps : AreKept the_formats itself name house new → Keeps (in_house so_far new) session
   kept-keeps kept = record { held = kept-holds kept; wanted = keeps.wanted }
 
   pub unmade-ordered : (text : AnswerText) (rise : ℕ) (refusal : Refusal) → IsRefused the_formats itself told_most name order house rise refusal →
-      AreKept the_formats itself every name house new →
+      AreKept the_formats itself name house new →
       Makes (Err refusal) text (in_house so_far new) session (ordered_within limits session number name order)
   unmade-ordered text rise refusal (inl absent) kept = (
     kept-keeps kept,
@@ -336,14 +333,4 @@ made-preferred text number so_far session wanted is made = (
   made.1,
   ap (λ (w : Result Session Refusal). w >>= λ (after : Session). Ok (record { text = preferred_line number; session = after })) made.2
       ∙ ap (λ zs. Ok (record { text = zs; session = made.0 })) (sym is),
-)
-
-pub unmade-preferred : (text : AnswerText) (refusal : Refusal) (number : ℕ) (so_far : SessionSoFar) (session : Session) (wanted : Result Session Refusal) → PrefersAs (Err refusal) so_far session wanted →
-    Makes (Err refusal) text so_far session (wanted >>= λ (after : Session). Ok (record { text = preferred_line number; session = after }))
-unmade-preferred text refusal number so_far session wanted made = (
-  made.0,
-  elim made.1 [
-    | inl memory ↦ inl memory
-    | inr is ↦ inr (ap (λ (w : Result Session Refusal). w >>= λ (after : Session). Ok (record { text = preferred_line number; session = after })) is)
-  ],
 )

@@ -1,12 +1,9 @@
 -- An audit, line by line, and what it reads and writes.
-use Rattle.std.proofs.Common.{◌≡◌, ◌⊎◌, ℕ, suc, ◌+◌, ◌<◌, ◌≤◌, Bool, true, false, List, [], ◌∷◌, ◌++◌, length, Option, None, Some, refl, ap, sym, subst, ◌∙◌, arith, inl, inr}
-use Rattle.std.specs.Prelude.{◌≢◌, ◌||◌, Result, Ok, Err, IfErr, is_ok}
-use Rattle.std.specs.Io.KnownBytes.{Appends, Consumes, IsAtEnd}
+use Rattle.std.proofs.Common.{◌≡◌, ◌⊎◌, ℕ, suc, ◌+◌, Bool, true, false, List, [], ◌∷◌, ◌++◌, length, Option, Some, refl, ap, sym, subst, ◌∙◌, arith, inl, inr}
+use Rattle.std.specs.Prelude.{◌≢◌, ◌||◌, Result, Err, IfErr, is_ok}
+use Rattle.std.specs.Io.KnownBytes.{Appends}
 use Rattle.std.specs.Str.Lines.{lines}
-use Rattle.std.proofs.KnownBytes.{Appends-nil, Consumes-nil}
 use Rattle.smil_model.specs.declared.order.Refusal.TheVariants.{Memory}
-use Rattle.smil_outside.specs.declared.failed.Failed.{Failed}
-use Rattle.smil_outside.specs.declared.line.TheConstants.{INPUT_BYTES}
 use Rattle.smil_outside.specs.declared.line.Line.TheVariants.{End}
 use Rattle.smil_outside.specs.ReaderState.{ReaderState}
 use Rattle.smil_words.specs.declared.mode.Mode.TheVariants as mode
@@ -14,10 +11,9 @@ use Rattle.smil_top.specs.declared.audit.AuditInput.{AuditInput}
 use Rattle.smil_top.specs.declared.audit.Told.{Told}
 use Rattle.smil_top.specs.declared.audit.WholeInput.{WholeInput}
 use Rattle.smil_top.specs.declared.fault.Fault.{Fault}
-use Rattle.smil_top.specs.declared.status.Status.{Status}
 use Rattle.smil_top.specs.declared.status.Status.TheVariants as status
-use Rattle.smil_top.specs.Auditing.{ReadsAs, Tells, TellsOf, Verdict, audit_input, audit_lines, audit_of, audit_status_by, audit_text_by, input_takes, lines_take, memory_line, no_memory, read_on, reading_takes, takes_memory, told_by, verdict_status}
-use Rattle.smil_top.specs.Serving.{Audited, Audits, IsPart, IsWholeAudit, IsWholeInput, Serves, StopsAudit, StopsBy}
+use Rattle.smil_top.specs.Auditing.{ReadsAs, Tells, TellsOf, Verdict, audit_input, audit_lines, audit_of, audit_text_by, input_takes, lines_take, memory_line, no_memory, read_on, reading_takes, takes_memory, told_by}
+use Rattle.smil_top.specs.Serving.{Audited, IsPart, IsWholeInput, Serves}
 use Rattle.smil_top.proofs.ServeStep.{Nexts}
 
 -- ---- lines
@@ -95,55 +91,6 @@ told-whole told whole input tells = record {
 }
 
 -- ---- what was read and written
-
--- an audit that stops without a line
-pub Serves-stopped : {ended : Status} {before after : Option (List ℕ)} (taken : Option (List ℕ)) (room : ℕ) → StopsAudit ended before after → Serves (Some mode.Audit) ended before after taken taken room
-Serves-stopped {ended} {before} {after} taken room stops = record {
-  came = stops.0;
-  text = [];
-  read = stops.1;
-  written = Appends-nil taken;
-  served = by ended stops.2;
-}
-  where
-    by : (ended : Status) → StopsBy ended stops.0 → Audits ended after stops.0 [] room
-    by status.ReadFault stopped = (stopped, refl)
-    by status.InputTooLong stopped = (stopped, refl)
-    by status.Memory stopped = inl (stopped, refl)
-    by status.Clean stopped = absurd stopped
-    by status.Refused stopped = absurd stopped
-    by status.Words stopped = absurd stopped
-    by status.WriteFault stopped = absurd stopped
-
--- there was no memory to begin with
-pub stops-nothing : (rest : Option (List ℕ)) → StopsAudit status.Memory rest rest
-stops-nothing rest = ([], Consumes-nil rest, refl)
-
--- the whole line was written
-pub Serves-told : {told : Told} {before after : Option (List ℕ)} (taken_before taken_after : Option (List ℕ)) (room : ℕ) → Audited told before after → Appends taken_before taken_after told.line → Serves (Some mode.Audit) told.status before after taken_before taken_after room
-Serves-told {told} {before} {after} taken_before taken_after room audited written = record {
-  came = audited.came;
-  text = told.line;
-  read = audited.read;
-  written = written;
-  served = by audited.tells;
-}
-  where
-    -- what is told of a verdict or a fault
-    ends : (ended : Status) → audit_status_by (audit_of (lines audited.came)) ≡ ended → told.line ≡ audit_text_by (audit_of (lines audited.came)) → IsWholeAudit ended audited.came told.line
-    ends ended is line = record { text_is = line; ended_is = sym is; within = audited.within }
-
-    by_wrong : (wrong : Option ℕ) → audit_status_by (audit_of (lines audited.came)) ≡ verdict_status wrong → told.line ≡ audit_text_by (audit_of (lines audited.came)) → Audits (verdict_status wrong) after audited.came told.line room
-    by_wrong None is line = (audited.at_end, ends status.Clean is line)
-    by_wrong (Some place) is line = (audited.at_end, ends status.Refused is line)
-
-    whole : (answer : Result Verdict Fault) → audit_of (lines audited.came) ≡ answer → told.line ≡ audit_text_by (audit_of (lines audited.came)) → Audits (audit_status_by answer) after audited.came told.line room
-    whole (Ok verdict) is line = by_wrong verdict.wrong (ap audit_status_by is) line
-    whole (Err fault) is line = (audited.at_end, ends status.Refused (ap audit_status_by is) line)
-
-    by : TellsOf (takes_memory (lines audited.came)) told (audit_of (lines audited.came)) → Audits told.status after audited.came told.line room
-    by (inl (taken, tells)) = subst (λ s. Audits s after audited.came told.line room) (sym tells.status_is) (inr (audited.at_end, audited.within, taken, tells.line_is))
-    by (inr tells) = subst (λ s. Audits s after audited.came told.line room) (sym tells.status_is) (whole (audit_of (lines audited.came)) refl tells.line_is)
 
 -- a part of it was written
 pub Serves-part : {told : Told} {before after : Option (List ℕ)} (taken_before taken_after : Option (List ℕ)) (room : ℕ) (text : List ℕ) → Audited told before after → Appends taken_before taken_after text → IsPart text told.line room → Serves (Some mode.Audit) status.WriteFault before after taken_before taken_after room

@@ -34,13 +34,13 @@ use Rattle.smil_top.specs.Transcript.{TranscriptState, and_then, with_answer}
 use Rattle.smil_top.proofs.CopiedLines.{copied-any, copied-read}
 use Rattle.smil_top.proofs.CutLines.{is_short-true}
 use Rattle.smil_top.proofs.EvaluationCounts.{counted-ordered, counted-same, counted-unordered, counted-single, evaluated-on}
-use Rattle.smil_top.proofs.AnswersMade.{every, held-at, held-nowhere, in_house, itself, kept-keeps, the_formats, told_least, told_most, turned-keeps}
+use Rattle.smil_top.proofs.AnswersMade.{held-at, held-nowhere, in_house, itself, kept-keeps, the_formats, told_least, told_most, turned-keeps}
 use Rattle.smil_top.proofs.TranscriptStep.{answer_as, single-made, told-counted}
 
 -- ---- by the presentations
 
 module _ (name : List ℕ) (order : Order) (so_far : SessionSoFar) (new : Presentations) (session : Session) (keeps : Keeps so_far session) where
-  pub recorded : (changes : List Change) (rise : ℕ) (now : ℤ) → IsRecordedBy the_formats itself every told_least told_most name order so_far.house new changes rise now →
+  pub recorded : (changes : List Change) (rise : ℕ) (now : ℤ) → IsRecordedBy the_formats itself told_least told_most name order so_far.house new changes rise now →
       IsRecorded now changes (in_house so_far new) session name order
   recorded changes rise now is = record {
     before = is.before.player;
@@ -62,7 +62,7 @@ module _ (name : List ℕ) (order : Order) (so_far : SessionSoFar) (new : Presen
   ]
 
   pub unrecorded : (changes : List Change) (rise : ℕ) (refusal : Refusal) → changes ≡ [] → IsRefused the_formats itself told_most name order so_far.house rise refusal →
-      AreKept the_formats itself every name so_far.house new → IsRefusedIn refusal changes (in_house so_far new) session name order
+      AreKept the_formats itself name so_far.house new → IsRefusedIn refusal changes (in_house so_far new) session name order
   unrecorded changes rise refusal empty refused kept = record {
     changes_are = empty;
     keeps = kept-keeps name order so_far new session 0 keeps kept;
@@ -71,8 +71,8 @@ module _ (name : List ℕ) (order : Order) (so_far : SessionSoFar) (new : Presen
 
   -- what a house recorded of it
   pub records-of : (old out : List Change) (rise : ℕ) (r : Result ℤ Refusal) → old ≡ [] →
-      IfOk r (IsRecordedBy the_formats itself every told_least told_most name order so_far.house new (drop (length old) out) rise) →
-      IfErr r (IsRefused the_formats itself told_most name order so_far.house rise) → OnErr r (AreKept the_formats itself every name so_far.house new) →
+      IfOk r (IsRecordedBy the_formats itself told_least told_most name order so_far.house new (drop (length old) out) rise) →
+      IfErr r (IsRefused the_formats itself told_most name order so_far.house rise) → OnErr r (AreKept the_formats itself name so_far.house new) →
       OnOk r (out ≡ old ++ drop (length old) out) → OnErr r (out ≡ old) → Records r out (in_house so_far new) session name order
   records-of old out rise (Ok now) empty ok err kept appended same =
       subst (λ (cs : List Change). IsRecorded now cs (in_house so_far new) session name order) (sym (appended ∙ ap (λ (cs : List Change). cs ++ drop (length old) out) empty))
@@ -80,7 +80,7 @@ module _ (name : List ℕ) (order : Order) (so_far : SessionSoFar) (new : Presen
   records-of old out rise (Err refusal) empty ok err kept appended same = unrecorded out rise refusal (same ∙ empty) err kept
 
   -- and how many evaluations it had
-  pub counted-of : (changes : List Change) (rise : ℕ) (r : Result ℤ Refusal) → IfOk r (IsRecordedBy the_formats itself every told_least told_most name order so_far.house new changes rise) →
+  pub counted-of : (changes : List Change) (rise : ℕ) (r : Result ℤ Refusal) → IfOk r (IsRecordedBy the_formats itself told_least told_most name order so_far.house new changes rise) →
       IfErr r (IsRefused the_formats itself told_most name order so_far.house rise) → IsCounted (done r) (λ bound. ordered_number bound session name order) rise
   counted-of changes rise (Ok now) ok err =
       let text : List ℕ = answer_text formats ok.before.player ok.after.player order in

@@ -1,5 +1,5 @@
 -- How far the counter of evaluations goes on behind an order, and behind all orders.
-use Rattle.std.proofs.Common.{◌≡◌, ◌⊎◌, ℕ, ℤ, ◌+◌, ◌-◌, ◌≤◌, Bool, false, List, [], ◌∷◌, ◌++◌, length, Option, Some, None, Result, Ok, Err, refl, ap, sym, subst, ◌∙◌, arith, inl, inr}
+use Rattle.std.proofs.Common.{◌≡◌, ◌⊎◌, ℕ, ℤ, ◌+◌, ◌-◌, ◌≤◌, false, List, [], ◌∷◌, ◌++◌, length, Option, Some, None, Result, Ok, Err, refl, ap, sym, subst, ◌∙◌, arith, inl, inr}
 use Rattle.std.specs.Prelude.{if◌then◌else◌}
 use Rattle.std.specs.Result.{result_unwrap_or}
 use Rattle.std.proofs.lemmas.Bool.{or_parts}
@@ -28,18 +28,16 @@ use Rattle.smil_top.specs.declared.session.Session.{Session as SessionSoFar}
 use Rattle.smil_top.specs.Session.{Session, presentation_of, may_join, may_load}
 use Rattle.smil_top.specs.Answers.{Answer, LoadedDocument, at_line, found_presentation, given_within, answer_of}
 use Rattle.smil_top.specs.Transcript.{TranscriptState, MayAnswer, is_memory, transcript_by, untold}
-use Rattle.smil_top.specs.Serving.{status_by}
 use Rattle.smil_top.specs.Laws.{heard, refuses_as}
-use Rattle.smil_top.specs.Evaluations.{Bound, most, least, ordered_number, said_number, line_number, loaded_number, number_of, least_of, most_of, sum_of, is_diary_full, IsBounded, AreEvaluated}
+use Rattle.smil_top.specs.Evaluations.{Bound, most, least, ordered_number, said_number, line_number, loaded_number, number_of, least_of, most_of, sum_of, is_diary_full, IsBounded}
 use Rattle.smil_top.specs.Houses.{Presentations, Holds}
 use Rattle.smil_top.specs.Running.{given_of, EvaluatesOn, Gives, HasEvaluated, IsCounted, IsCountedBy, IsOrderCounted, MakesAnswer, Tells}
 use Rattle.smil_top.proofs.CutLines.{is_short-true}
 use Rattle.smil_top.proofs.OrderCuts.{cut_of-one_more}
 use Rattle.smil_top.proofs.HouseLemmas.{may_load-held}
-use Rattle.smil_top.proofs.AnswersMade.{every, held-at, itself, the_formats, told_least, told_most}
+use Rattle.smil_top.proofs.AnswersMade.{held-at, itself, the_formats, told_least, told_most}
 use Rattle.smil_top.proofs.SumLemmas.{full-snoc, least_spares, refused-0, sum-snoc}
 use Rattle.smil_top.proofs.TranscriptAnswers.{is_one}
-use Rattle.smil_top.proofs.SessionEnds.{no-memory}
 use Rattle.smil_top.proofs.TranscriptStep.{counted_as, fine}
 
 -- ---- one order
@@ -57,7 +55,7 @@ counted-same refusal_of (Err e) number other rise same counted = counted
 
 module _ (name : List ℕ) (order : Order) (house new : Presentations) (session : Session) (holds : Holds house session) where
   -- an order to a presentation is accepted
-  pub counted-ordered : (text : List ℕ) (rise : ℕ) (moment : ℤ) → IsAnsweredBy the_formats itself every told_least told_most name order house new text rise moment →
+  pub counted-ordered : (text : List ℕ) (rise : ℕ) (moment : ℤ) → IsAnsweredBy the_formats itself told_least told_most name order house new text rise moment →
       IsCounted (Ok tt) (λ bound. ordered_number bound session name order) rise
   counted-ordered text rise moment answered =
       let found : presentation_of name session ≡ Some answered.before.player = held-at name house session answered.place answered.before holds answered.turned.at in
@@ -242,8 +240,3 @@ pub evaluated-ended : (old new : Counts) (orders : List OrderLines) (last : Opti
 evaluated-ended old new orders last steps none same start evaluated =
     subst (λ os. HasEvaluated new os start steps) (sym (ap (λ (o : Option LoadLines). orders ++ unended o) none ∙ append-nil orders))
     (evaluated-none old new orders steps same start evaluated)
-
--- all was answered
-pub evaluated-all : (counts : Counts) (orders : List OrderLines) (start now : ℕ) (refused : Bool) → HasEvaluated counts orders start now →
-    AreEvaluated (status_by refused counts.memory) orders (now - start)
-evaluated-all counts orders start now refused evaluated told none = evaluated.bounded (no-memory refused counts.memory told) none

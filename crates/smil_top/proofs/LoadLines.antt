@@ -113,15 +113,6 @@ IsRead-unnamed line wanted head refusal (inr is) = record {
   reading = inl (ap (λ (r : Result LoadHead Refusal). at_line line r >>= λ (h : LoadHead). loading_from limits h.start (unread wanted) [] >>= λ (o : Loading). Ok (h, o)) is);
 }
 
--- a load that was opened
-pub IsRead-named : (line : ℕ) (wanted : Wanted) (head : List ℕ) (named : NamedLines) → ReadsHead (Ok named) wanted head →
-    IsRead (record { line = line; reading = Ok named }) wanted (record { head = record { number = line; text = head }; nodes = [] })
-IsRead-named line wanted head named is = record {
-  line = refl;
-  reading = inl (ap (λ (r : Result LoadHead Refusal). at_line line r >>= λ (h : LoadHead). loading_from limits h.start (unread wanted) [] >>= λ (o : Loading). Ok (h, o)) is.0
-      ∙ ap (λ (o : Loading). Ok (head_read named, o)) (sym is.1));
-}
-
 -- ---- the end
 
 chain-end : (r : Result LoadHead Fault) (s : LoadHead → Result Loading Fault) (end_line : ℕ) →

@@ -28,7 +28,7 @@ use Rattle.smil_top.specs.Transcript.{TranscriptState, and_then, is_memory, with
 use Rattle.smil_top.specs.Summary.{line_count}
 use Rattle.smil_switch.specs.Preferences.{Wanted}
 use Rattle.smil_top.specs.Houses.{Keeps}
-use Rattle.smil_top.specs.Running.{answering, with_order, counted_on, finished, given_of, line_by, load_by, no_text, said, text_of, AreCounted, Answers, AnswersOrders, Gives, Goes, IsOpen, IsRead, IsRunning, IsLine, Makes, MakesAnswer, Tells, Writes, WritesAll}
+use Rattle.smil_top.specs.Running.{answering, with_order, counted_on, finished, given_of, line_by, load_by, no_text, said, text_of, AreCounted, Answers, AnswersOrders, Gives, IsOpen, IsRead, IsRunning, IsLine, Makes, MakesAnswer, Tells, Writes, WritesAll}
 use Rattle.smil_top.proofs.CutLines.{is_short-true, is_short-false}
 
 -- the answer that was made

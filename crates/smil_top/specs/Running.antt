@@ -1,5 +1,5 @@
 -- What stands between two lines of a session.
-use Rattle.std.specs.Prelude.{Bool, true, false, ◌||◌, ◌≡◌, ◌⊎◌, ℕ, List, [], min, ◌<◌, ◌≤◌, ◌+◌, ◌-◌, length, take, nat_lt, ◌++◌, Option, Some, None, Result, Ok, Err, if◌then◌else◌}
+use Rattle.std.specs.Prelude.{Bool, true, false, ◌||◌, ◌≡◌, ◌⊎◌, ℕ, List, [], min, ◌<◌, ◌≤◌, ◌+◌, ◌-◌, length, take, nat_lt, ◌++◌, Option, Some, None, Result, Ok, Err, OnOk, OnErr, if◌then◌else◌}
 use Rattle.std.specs.Result.{result_unwrap_or}
 use Rattle.std.specs.Io.KnownBytes.{Appends, Consumes, IsAtEnd}
 use Rattle.std.specs.Str.Lines.{lines}
@@ -11,7 +11,7 @@ use Rattle.smil_model.specs.document.Limits.{limits}
 use Rattle.smil_model.specs.shown.Answers.{IsRefusedBy, MayEvaluate}
 use Rattle.smil_model.specs.shown.Lines.{refusal_line}
 use Rattle.smil_outside.specs.declared.failed.Failed.{Failed}
-use Rattle.smil_outside.specs.Faults.{last_count}
+use Rattle.smil_outside.specs.Faults.{HasRisen, last_count}
 use Rattle.smil_grammar.specs.declared.read.Read.{Read}
 use Rattle.smil_grammar.specs.declared.read.Read.TheVariants.{Blank, Load, LoadAt, Prefer, Close, To}
 use Rattle.smil_grammar.specs.Results.{◌>>=◌}
@@ -188,6 +188,10 @@ IsOpen _ _ _ = ⊥
 abbrev pub uncounted : Counts
 uncounted = record { orders = 0; refused = 0; lines = 0; memory = false }
 
+-- the same where lines are not counted
+abbrev pub without_lines : Counts
+without_lines = record uncounted { lines = last_count }
+
 -- one more of what is counted, up to the last count
 abbrev pub counted_on : ℕ → ℕ → ℕ
 counted_on count more = min (count + more) last_count
@@ -254,6 +258,11 @@ abbrev pub Writes :
     Result (Unit {0}) Failed → Option (List ℕ) → Option (List ℕ) → ℕ → ℕ → List ℕ → Type 0
 Writes (Ok done) before after room left text = WritesAll before after room left text
 Writes (Err e) before after room left text = WritesPart before after room text
+
+-- a fault of the sink raises its count of them, and nothing else does
+pub record CountsFaults (result : Result (Unit {0}) Failed) (before after : ℕ) : Type 0 where
+  pub kept : OnOk result (after ≡ before)
+  pub cause : OnErr result (HasRisen before after)
 
 -- more was told, and it or a part of it was written
 pub record Goes (result : Result (Unit {0}) Failed) (told more : TranscriptState)

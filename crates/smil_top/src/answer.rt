@@ -1,8 +1,8 @@
 //! The text of an answer, made whole before it is written.
 
-ghost use Rattle.std.specs.Prelude.{◌≡◌, ◌↔◌, ◌<◌, ◌≤◌, length, min, OnOk, OnErr, IsTrue};
-ghost use Rattle.smil_outside.specs.Faults.{HasRisen, last_count};
-ghost use Rattle.smil_top.specs.Running.{Writes, finished, no_text, text_of};
+ghost use Rattle.std.specs.Prelude.{◌≡◌, ◌↔◌, ◌<◌, ◌≤◌, length, min, IsTrue};
+ghost use Rattle.smil_outside.specs.Faults.{last_count};
+ghost use Rattle.smil_top.specs.Running.{CountsFaults, Writes, finished, no_text, text_of};
 ghost use Rattle.smil_top.specs.Summary.{line_count};
 
 use super::fault::Fault;
@@ -71,8 +71,7 @@ impl Answer {
         ensures answer { self.new ≡ self.old }
         ensures writes { Writes result (K.taken sink.old) (K.taken sink.new) (K.sure_room sink.old)
             (K.sure_room sink.new) (text_of self.old) }
-        ensures kept { OnOk result (K.faults sink.new ≡ K.faults sink.old) }
-        ensures cause { OnErr result (HasRisen (K.faults sink.old) (K.faults sink.new)) }
+        ensures faults { CountsFaults result (K.faults sink.old) (K.faults sink.new) }
     {
         let len = self.told.len();
         if self.told.append(self.last.slice()).is_err() {
@@ -87,8 +86,7 @@ impl Answer {
     fn write_apart<K: Sink>(&self, sink: &mut K) -> Result<(), Failed>
         ensures writes { Writes result (K.taken sink.old) (K.taken sink.new) (K.sure_room sink.old)
             (K.sure_room sink.new) (text_of self.now) }
-        ensures kept { OnOk result (K.faults sink.new ≡ K.faults sink.old) }
-        ensures cause { OnErr result (HasRisen (K.faults sink.old) (K.faults sink.new)) }
+        ensures faults { CountsFaults result (K.faults sink.old) (K.faults sink.new) }
     {
         write_all(sink, self.told.slice())?;
         write_all(sink, self.last.slice())

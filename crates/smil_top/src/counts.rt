@@ -1,16 +1,22 @@
 //! What is counted of a session.
 
-ghost use Rattle.std.specs.Prelude.{◌≡◌, ◌↔◌, nat_lt, IsTrue};
-ghost use Rattle.smil_top.specs.Running.{AreExact, with_order, uncounted};
+ghost use Rattle.std.specs.Prelude.{◌≡◌, ◌↔◌, min, nat_lt, IsTrue};
+ghost use Rattle.smil_outside.specs.Faults.{last_count};
+ghost use Rattle.smil_top.specs.Running.{AreExact, text_of, uncounted, with_order, without_lines};
 ghost use Rattle.smil_top.specs.Serving.{status_by};
+ghost use Rattle.smil_top.specs.Summary.{line_count};
 
+use super::answer::Answer;
 use super::fault::Fault;
 use super::status::Status;
 use smil_model::Refusal;
 
+/// As many lines as are no longer counted.
+pub(crate) const UNCOUNTED: u64 = u64::MAX;
+
 /// How many orders were answered, how many of them were refused for a fault, how many lines the
-/// answers have, and whether an order was refused since memory ran out. Each count stands still at
-/// the greatest number.
+/// answers have, where that is asked for, and whether an order was refused since memory ran out.
+/// Each count stands still at the greatest number.
 #[derive(Clone, Copy, Drop)]
 pub(crate) struct Counts {
     pub orders: u64,
@@ -32,6 +38,19 @@ impl Counts {
         }
     }
 
+    /// Before the first order of a session whose lines are not counted: their count stands at the
+    /// greatest number.
+    pub fn without_lines() -> Counts
+        ensures { result ≡ without_lines }
+    {
+        Counts {
+            orders: 0,
+            refused: 0,
+            lines: UNCOUNTED,
+            memory: false,
+        }
+    }
+
     /// One more order, whose answer has so many lines.
     pub fn count(&mut self, answered: &Result<(), Fault>, lines: u64)
         ensures { self.new ≡ with_order answered.now lines self.old }
@@ -44,6 +63,18 @@ impl Counts {
             } else {
                 self.refused = self.refused.saturating_add(1);
             }
+        }
+    }
+
+    /// One more order, with its answer, whose lines are looked at only where they are counted.
+    pub fn count_answer(&mut self, answered: &Result<(), Fault>, answer: &Answer)
+        ensures { self.new ≡ with_order answered.now
+            (min (line_count (text_of answer.now)) last_count) self.old }
+    {
+        if self.lines < UNCOUNTED {
+            self.count(answered, answer.lines());
+        } else {
+            self.count(answered, UNCOUNTED);
         }
     }
 

@@ -39,7 +39,7 @@ pub(crate) fn summary_of<L: Ledger>(
 {
     let bytes = session_bytes(alloc, number)?;
     let mut source = MemSource::new(alloc, bytes.slice(), CHUNK_BYTES, &[])?;
-    let mut opening = Opening::new(alloc, false)?;
+    let mut opening = Opening::new(alloc, false, Counts::new())?;
     let reader = opening.reader;
     let status = opening
         .run

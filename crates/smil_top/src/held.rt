@@ -15,6 +15,7 @@ ghost use Rattle.smil_top.specs.Running.{EvaluatesOn, IsLine};
 ghost use Rattle.smil_top.specs.Session.{Session, presentation_of};
 ghost use Rattle.smil_top.specs.Transcript.{TranscriptState, untold};
 
+use super::counts::Counts;
 use super::fault::Fault;
 use super::load::Load;
 use super::nowhere::Nowhere;
@@ -65,7 +66,7 @@ impl Held {
         ensures fault { IfOk result (λ held. held.fault ≡ None) }
     {
         Ok(Held {
-            run: Run::new(alloc, false)?,
+            run: Run::new(alloc, false, Counts::without_lines())?,
             number: 0,
             changes: Changes::new(alloc),
             fault: None,

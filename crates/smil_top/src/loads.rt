@@ -14,11 +14,11 @@ ghost use Rattle.smil_top.specs.Running.{EvaluatesOn, IsCounted, IsLine, IsOrder
 ghost use Rattle.smil_top.specs.Session.{Session as Presentations};
 ghost use Rattle.smil_top.specs.Transcript.{TranscriptState, with_answer};
 
+use super::counts::UNCOUNTED;
 use super::fault::Fault;
 use super::held::shown;
 use super::load::Load;
 use super::loaded::LoadedDoc;
-use super::recorded::UNCOUNTED;
 use super::run::Run;
 use super::session::Session;
 use smil_interval::Steps;

@@ -6,9 +6,10 @@ ghost use Rattle.smil_outside.specs.ReaderState.{fresh_reading};
 ghost use Rattle.smil_top.specs.Cut.{CutLines, cut_of, unended};
 ghost use Rattle.smil_top.specs.Transcript.{TranscriptState, untold};
 ghost use Rattle.smil_top.specs.Evaluations.{AreEvaluated};
-ghost use Rattle.smil_top.specs.Running.{Ends, HasEvaluated, IsRunning, Ran, RanCounted, text_of};
+ghost use Rattle.smil_top.specs.Running.{AreCounted, CountsFaults, Ends, HasEvaluated, IsRunning, Ran, RanCounted, text_of};
 
 use super::answer::Answer;
+use super::counts::Counts;
 use super::run::{NumberedLine, Run};
 use super::status::Status;
 use smil_interval::Steps;
@@ -35,16 +36,17 @@ pub(crate) struct Opening {
 }
 
 impl Opening {
-    /// A session before its first line, whose loads are only read or are opened too; unless memory
-    /// runs out.
-    pub fn new(alloc: Global, checks: bool) -> Result<Opening, AllocError>
+    /// A session before its first line, whose loads are only read or are opened too, and what is
+    /// counted of it so far; unless memory runs out.
+    pub fn new(alloc: Global, checks: bool, counts: Counts) -> Result<Opening, AllocError>
+        requires { AreCounted counts [] untold }
         ensures reader { IfOk result (λ opening. opening.reader ≡ fresh_reading) }
         ensures run { IfOk result (λ opening. IsRunning checks opening.run (cut_of []) untold) }
     {
         widen(alloc);
         Ok(Opening {
             reader: LineReader::new(alloc)?,
-            run: Run::new(alloc, checks)?,
+            run: Run::new(alloc, checks, counts)?,
         })
     }
 }
@@ -101,8 +103,7 @@ impl Run {
 fn hand_on_before<K: Sink>(has_told: bool, reader: &LineReader, sink: &mut K) -> Result<(), Failed>
     ensures bytes { OnOk result (K.taken sink.new ≡ K.taken sink.old) }
     ensures room { OnOk result (K.sure_room sink.old ≤ K.sure_room sink.new) }
-    ensures kept { OnOk result (K.faults sink.new ≡ K.faults sink.old) }
-    ensures cause { OnErr result (HasRisen (K.faults sink.old) (K.faults sink.new)) }
+    ensures faults { CountsFaults result (K.faults sink.old) (K.faults sink.new) }
     ensures err { OnErr result ((has_told ≡ true) × (K.keeps_back ≡ true)) }
 {
     if has_told && !reader.has_line() {
@@ -146,8 +147,7 @@ fn tells(has_told: bool, answer: &Answer) -> bool
 fn hand_on_text<K: Sink>(answer: &Answer, sink: &mut K) -> Result<(), Failed>
     ensures bytes { OnOk result (K.taken sink.new ≡ K.taken sink.old) }
     ensures room { OnOk result (K.sure_room sink.old ≤ K.sure_room sink.new) }
-    ensures kept { OnOk result (K.faults sink.new ≡ K.faults sink.old) }
-    ensures cause { OnErr result (HasRisen (K.faults sink.old) (K.faults sink.new)) }
+    ensures faults { CountsFaults result (K.faults sink.old) (K.faults sink.new) }
     ensures err { OnErr result ((0 < length (text_of answer.now)) × (K.keeps_back ≡ true)) }
 {
     if answer.has_text() {

@@ -12,6 +12,7 @@ ghost use Rattle.smil_top.specs.Running.{EvaluatesOn, IsCounted, Tells};
 ghost use Rattle.smil_top.specs.Session.{Session as Presentations};
 ghost use Rattle.smil_top.specs.Transcript.{TranscriptState, with_answer};
 
+use super::counts::UNCOUNTED;
 use super::fault::Fault;
 use super::run::Run;
 use super::session::Session;
@@ -19,9 +20,6 @@ use smil_interval::Steps;
 use smil_model::{Order, Refusal};
 use smil_report::Changes;
 use std::sync::ledger::Ledger;
-
-// As many lines as are no longer counted.
-pub const UNCOUNTED: u64 = u64::MAX;
 
 /// An order, the name of the presentation that it is for, and the number of the line that it
 /// stands for.

@@ -1,14 +1,14 @@
 //! A session, line by line.
 
-ghost use Rattle.std.specs.Prelude.{◌≡◌, ◌≤◌, ◌-◌, ℕ, Bool, false, suc, List, ◌∷◌, ◌++◌, [], length, min, option_map, None, Some, IfOk, IfSome, OnOk, OnErr};
-ghost use Rattle.smil_outside.specs.Faults.{HasRisen, last_count};
+ghost use Rattle.std.specs.Prelude.{◌≡◌, ◌≤◌, ◌-◌, ℕ, Bool, false, suc, List, ◌∷◌, ◌++◌, [], length, min, option_map, None, Some, IfOk, IfSome};
+ghost use Rattle.smil_outside.specs.Faults.{last_count};
 ghost use Rattle.smil_top.specs.Cut.{CutLines, LoadLines, OrderLines, single, load as load_order, cut_of, unended, with_line};
 ghost use Rattle.smil_top.specs.Session.{Session as Presentations};
 ghost use Rattle.smil_top.specs.Summary.{line_count};
 ghost use Rattle.smil_top.specs.Transcript.{TranscriptState, untold};
 ghost use Rattle.smil_top.specs.Houses.{Keeps};
 ghost use Rattle.smil_top.specs.Evaluations.{Bound, number_of};
-ghost use Rattle.smil_top.specs.Running.{answering, finished, no_text, with_order, said, Answers, AnswersOrders, EvaluatesOn, IsOrderCounted, IsRead, IsRunning, IsLine, MakesAnswer, Tells, Writes};
+ghost use Rattle.smil_top.specs.Running.{answering, finished, no_text, with_order, said, Answers, AnswersOrders, AreCounted, CountsFaults, EvaluatesOn, IsOrderCounted, IsRead, IsRunning, IsLine, MakesAnswer, Tells, Writes};
 
 use super::answer::Answer;
 use super::counts::Counts;
@@ -40,9 +40,10 @@ pub(crate) struct Run {
 }
 
 impl Run {
-    /// A session before its first line, whose loads are only read or are opened too; unless memory
-    /// runs out.
-    pub fn new(alloc: Global, checks: bool) -> Result<Run, AllocError>
+    /// A session before its first line, whose loads are only read or are opened too, and what is
+    /// counted of it so far; unless memory runs out.
+    pub fn new(alloc: Global, checks: bool, counts: Counts) -> Result<Run, AllocError>
+        requires { AreCounted counts [] untold }
         ensures running { IfOk result (λ run. IsRunning checks run (cut_of []) untold) }
         ensures empty { IfOk result (λ run. run.answer ≡ no_text) }
     {
@@ -50,7 +51,7 @@ impl Run {
             session: Session::new(alloc, checks)?,
             load: None,
             answer: Answer::new(alloc),
-            counts: Counts::new(),
+            counts,
         })
     }
 
@@ -68,8 +69,7 @@ impl Run {
             → next.now.number ≡ suc cut.count → IsLine (option_map (λ t. t.now) next.now.text) line
             → Answers checks result self.new (with_line cut line) told (K.taken sink.old)
             (K.taken sink.new) (K.sure_room sink.old) (K.sure_room sink.new) }
-        ensures kept { OnOk result (K.faults sink.new ≡ K.faults sink.old) }
-        ensures cause { OnErr result (HasRisen (K.faults sink.old) (K.faults sink.new)) }
+        ensures faults { CountsFaults result (K.faults sink.old) (K.faults sink.new) }
         ensures counted { steps.old ≤ steps.new }
         ensures evaluated { (cut : CutLines) (told : TranscriptState) (line : List ℕ)
             → IsRunning false self.old cut told
@@ -101,8 +101,7 @@ impl Run {
             → next.now.number ≡ suc cut.count → IsLine (option_map (λ t. t.now) next.now.text) line
             → Answers checks result self.new (with_line cut line) told (K.taken sink.old)
             (K.taken sink.new) (K.sure_room sink.old) (K.sure_room sink.new) }
-        ensures kept { OnOk result (K.faults sink.new ≡ K.faults sink.old) }
-        ensures cause { OnErr result (HasRisen (K.faults sink.old) (K.faults sink.new)) }
+        ensures faults { CountsFaults result (K.faults sink.old) (K.faults sink.new) }
         ensures counted { steps.old ≤ steps.new }
         ensures evaluated { (cut : CutLines) (lines : LoadLines) (told : TranscriptState)
             (line : List ℕ) → cut.«open» ≡ Some lines
@@ -140,8 +139,7 @@ impl Run {
             → IsLine (option_map (λ t. t.now) next.now.text) line
             → Answers checks result self.new (with_line cut line) told (K.taken sink.old)
             (K.taken sink.new) (K.sure_room sink.old) (K.sure_room sink.new) }
-        ensures kept { OnOk result (K.faults sink.new ≡ K.faults sink.old) }
-        ensures cause { OnErr result (HasRisen (K.faults sink.old) (K.faults sink.new)) }
+        ensures faults { CountsFaults result (K.faults sink.old) (K.faults sink.new) }
         ensures counted { steps.old ≤ steps.new }
         ensures evaluated { (cut : CutLines) (told : TranscriptState) (line : List ℕ)
             → cut.«open» ≡ None
@@ -188,8 +186,7 @@ impl Run {
             (whole ++ single (record { number = number; text = text.now }) ∷ []) told
             (K.taken sink.old) (K.taken sink.new) (K.sure_room sink.old) (K.sure_room sink.new) }
         ensures load { self.new.load ≡ self.old.load }
-        ensures kept { OnOk result (K.faults sink.new ≡ K.faults sink.old) }
-        ensures cause { OnErr result (HasRisen (K.faults sink.old) (K.faults sink.new)) }
+        ensures faults { CountsFaults result (K.faults sink.old) (K.faults sink.new) }
         ensures counted { steps.old ≤ steps.new }
         ensures evaluated { (whole : List OrderLines) (told : TranscriptState)
             → Tells false self.old whole told
@@ -219,8 +216,7 @@ impl Run {
             told
             (K.taken sink.old) (K.taken sink.new) (K.sure_room sink.old) (K.sure_room sink.new) }
         ensures load { self.new.load ≡ self.old.load }
-        ensures kept { OnOk result (K.faults sink.new ≡ K.faults sink.old) }
-        ensures cause { OnErr result (HasRisen (K.faults sink.old) (K.faults sink.new)) }
+        ensures faults { CountsFaults result (K.faults sink.old) (K.faults sink.new) }
         ensures counted { steps.old ≤ steps.new }
         ensures evaluated { (whole : List OrderLines) (lines : LoadLines) (told : TranscriptState)
             → IsRead load told.session.wanted lines
@@ -269,8 +265,7 @@ impl Run {
             → IsRunning checks self.old cut told
             → AnswersOrders checks result self.new (cut.whole ++ unended cut.«open») told
             (K.taken sink.old) (K.taken sink.new) (K.sure_room sink.old) (K.sure_room sink.new) }
-        ensures kept { OnOk result (K.faults sink.new ≡ K.faults sink.old) }
-        ensures cause { OnErr result (HasRisen (K.faults sink.old) (K.faults sink.new)) }
+        ensures faults { CountsFaults result (K.faults sink.old) (K.faults sink.new) }
         ensures evaluated { (cut : CutLines) (told : TranscriptState) (steps : ℕ)
             → IsRunning false self.old cut told
             → EvaluatesOn self.old.counts self.new.counts cut.whole
@@ -298,11 +293,10 @@ impl Run {
         ensures load { self.new.load ≡ self.old.load }
         ensures counts { self.new.counts ≡ with_order answered
             (min (line_count (said answered self.old.answer)) last_count) self.old.counts }
-        ensures kept { OnOk result (K.faults sink.new ≡ K.faults sink.old) }
-        ensures cause { OnErr result (HasRisen (K.faults sink.old) (K.faults sink.new)) }
+        ensures faults { CountsFaults result (K.faults sink.old) (K.faults sink.new) }
     {
         self.answer.finish(&answered);
-        self.counts.count(&answered, self.answer.lines());
+        self.counts.count_answer(&answered, &self.answer);
         self.answer.write(sink)
     }
 }

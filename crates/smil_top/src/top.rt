@@ -9,6 +9,7 @@ ghost use Rattle.smil_top.specs.Running.{asked_by};
 ghost use Rattle.smil_top.specs.Serving.{Explains, Generates, Serves, reads};
 
 use super::audit::told_of;
+use super::counts::Counts;
 use super::generated::summary_of;
 use super::reading::Opening;
 use super::status::Status;
@@ -163,7 +164,7 @@ fn session<S: Source, K: Sink, L: Ledger>(
         (S.rest source.new)
         (K.taken sink.old) (K.taken sink.new) (K.sure_room sink.old) (steps.new - steps.old) }
 {
-    match Opening::new(setup.alloc, setup.checks) {
+    match Opening::new(setup.alloc, setup.checks, Counts::without_lines()) {
         Ok(mut opening) => {
             let reader = opening.reader;
             opening.run.answer_all(reader, source, sink, steps)

@@ -1,4 +1,4 @@
-use Rattle.std.proofs.Common.{◌≡◌, ap, refl, sym, subst, ◌∙◌, true, false}
+use Rattle.std.proofs.Common.{ap, sym, subst, ◌∙◌}
 use Rattle.smil_grammar.specs.Scripts.{is_blank}
 use Rattle.smil_top.proofs.LoadsGiven.{loud-long, silent-short}
 use Rattle.smil_top.proofs.TranscriptStep.{Shows, shown-line}

@@ -31,7 +31,7 @@ returns-in_err-answer-clause-kept g c =
       place = c.in-Some.index;
       before = c.index_mut.result.now;
       after = record { name = c.index_mut.result.now.name; player = c.answer.new.self };
-      turned = turned_to g.P.Player.formats g.P.Player.takes c.self.inside.held.items c.answer.new.self c.self.view_is (here g (goal.at.returns-in_err-answer-clause-kept g c).After-answer) c.in_err-answer.ensures.formats c.in_err-answer.ensures.takes;
+      turned = turned_to g.P.Player.formats c.self.inside.held.items c.answer.new.self c.self.view_is (here g (goal.at.returns-in_err-answer-clause-kept g c).After-answer) c.in_err-answer.ensures.formats;
       same = c.in_err-answer.ensures.kept;
     }))
 
@@ -42,7 +42,7 @@ returns-clause-ok g c =
       place = c.in-Some.index;
       before = c.index_mut.result.now;
       after = record { name = c.index_mut.result.now.name; player = c.answer.new.self };
-      turned = turned_to g.P.Player.formats g.P.Player.takes c.self.inside.held.items c.answer.new.self c.self.view_is (here g (goal.at.returns-clause-ok g c).After-answer) c.in_ok-answer.ensures.formats c.in_ok-answer.ensures.takes;
+      turned = turned_to g.P.Player.formats c.self.inside.held.items c.answer.new.self c.self.view_is (here g (goal.at.returns-clause-ok g c).After-answer) c.in_ok-answer.ensures.formats;
       accepted = c.in_ok-answer.ensures.ok;
       moment_is = same ∙ c.now.ensures;
       least_is = c.in_ok-answer.ensures.least;

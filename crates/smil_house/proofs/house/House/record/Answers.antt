@@ -31,7 +31,7 @@ returns-in_err-record-clause-kept g c =
       place = c.in-Some.index;
       before = c.index_mut-held.result.now;
       after = record { name = c.index_mut-held.result.now.name; player = c.«record».new.self };
-      turned = turned_to g.P.Player.formats g.P.Player.takes c.self.inside.held.items c.«record».new.self c.self.view_is (here g (goal.at.returns-in_err-record-clause-kept g c).After-record) c.in_err-record.ensures.formats c.in_err-record.ensures.takes;
+      turned = turned_to g.P.Player.formats c.self.inside.held.items c.«record».new.self c.self.view_is (here g (goal.at.returns-in_err-record-clause-kept g c).After-record) c.in_err-record.ensures.formats;
       same = c.in_err-record.ensures.kept;
     }))
 
@@ -42,7 +42,7 @@ returns-clause-ok g c =
       place = c.in-Some.index;
       before = c.index_mut-held.result.now;
       after = record { name = c.index_mut-held.result.now.name; player = c.«record».new.self };
-      turned = turned_to g.P.Player.formats g.P.Player.takes c.self.inside.held.items c.«record».new.self c.self.view_is (here g (goal.at.returns-clause-ok g c).After-record) c.in_ok-record.ensures.formats c.in_ok-record.ensures.takes;
+      turned = turned_to g.P.Player.formats c.self.inside.held.items c.«record».new.self c.self.view_is (here g (goal.at.returns-clause-ok g c).After-record) c.in_ok-record.ensures.formats;
       accepted = c.in_ok-record.ensures.ok;
       moment_is = same ∙ c.now.ensures;
       least_is = c.in_ok-record.ensures.least;

@@ -5,7 +5,6 @@ use Rattle.smil_outside.specs.declared.line.Line.TheVariants.{End, InputTooLong,
 use Rattle.smil_top.specs.declared.audit.AuditInput.{AuditInput}
 use Rattle.smil_top.specs.declared.fault.Fault.{Fault}
 use Rattle.smil_top.specs.Auditing.{IsSound, ReadsAs, audit_input, input_takes, reading_takes}
-use Rattle.smil_top.specs.Running.{IsLine}
 use Rattle.smil_top.proofs.AuditLines.{end-number, more_read, more_takes}
 use Rattle.smil_top.proofs.OrderCuts.{count-cut_of}
 use Rattle.smil_top.proofs.ServeStep.{Nexts, Nexts-of, Hands, hands-no_fault, next-line, next-end, next-too_long, next-fault, fault-open, HasRead, HasRead-fresh}

@@ -1,4 +1,4 @@
-use Rattle.std.proofs.Common.{◌≡◌, ℕ, ◌+◌, false, [], None, Some, Ok, Err, refl, ◌∙◌, arith, rules}
+use Rattle.std.proofs.Common.{◌≡◌, ℕ, ◌+◌, false, None, Some, Ok, Err, refl, ◌∙◌, arith, rules}
 use Rattle.std.specs.Prelude.{is_some}
 use Rattle.smil_top.proofs.GoneOn.{has-none, is-none}
 use Rattle.smil_top.proofs.HeldLoads.{lines_at, loads-evaluated, loads-into, loads-on, read-by}

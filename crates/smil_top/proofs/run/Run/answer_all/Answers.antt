@@ -148,7 +148,7 @@ lines-preserved g c =
           ] in
           subst (λ (t : TranscriptState). 0 < length t.text) (sym (told-next (g.K.Sink.taken c.args.sink.now) read.answered n.1 n.2 w.1.written c.line.result went a)) (some-told w.0.text a.more.text a.goes.text a.goes.text_is some_text);
       reads = e.kept (unfailed g at.After-line next) ∙ c.lines.invariant.reads;
-      writes = where_ok c.line.result _ (sym c.is_err.ensures.value ∙ c.if-is_err.false) c.line.ensures.kept ∙ c.in-Ok.ensures.kept ∙ c.lines.invariant.writes;
+      writes = where_ok c.line.result _ (sym c.is_err.ensures.value ∙ c.if-is_err.false) c.line.ensures.faults.kept ∙ c.in-Ok.ensures.faults.kept ∙ c.lines.invariant.writes;
       sure = λ never. (e.sure (c.lines.invariant.sure never)).0;
       steps = omega (arith, c.lines.invariant.steps, c.line.ensures.counted);
       evaluated = λ begun.

@@ -1,7 +1,7 @@
 use Rattle.std.proofs.Common.{◌-◌, Err, sym, subst}
 use Rattle.std.proofs.lemmas.Result.{err_from_is_err_and}
 use Rattle.smil_grammar.specs.declared.read.Read.TheVariants.{To}
-use Rattle.smil_script.specs.Copies.{IsForCopy, line_copies}
+use Rattle.smil_script.specs.Copies.{line_copies}
 use Rattle.smil_top.specs.Evaluations.{line_number}
 use Rattle.smil_top.specs.Running.{Makes, line_by}
 use Rattle.smil_top.proofs.EvaluationCounts.{counted-line, counted-refused}
