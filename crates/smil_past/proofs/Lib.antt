@@ -1,3 +1,4 @@
+pub mod ClocksAlike
 pub mod ClocksAtEntry
 pub mod AliveSinceBirth
 pub mod PlaysAfterEntry

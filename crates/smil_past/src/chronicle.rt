@@ -9,6 +9,8 @@ ghost use Rattle.smil_instance_rows.specs.Notes.{GoesBackTheSame};
 ghost use Rattle.std.specs.FinMap.{get};
 ghost use Rattle.smil_model.specs.document.Document.{elements, serials};
 ghost use Rattle.smil_instances.specs.Instances.{IsSettled};
+ghost use Rattle.smil_instances.specs.Intake.{history_of};
+ghost use Rattle.smil_stretch.specs.Clocks.{AreClocksOf};
 ghost use Rattle.smil_instances.specs.Spread.{IsIndex};
 ghost use Rattle.smil_past.specs.Readings.{MayGoBack};
 ghost use Rattle.smil_past.specs.Chronicle.{Lags, Tells, TellsNothing};
@@ -18,6 +20,7 @@ use smil_diary::{Book, BookFault};
 use smil_instance_rows::RowNotes;
 use smil_instances::{DocumentHistory, Instances};
 use smil_model::{Duplicate, Entry, Log, SerialTable};
+use smil_stretch::Clocks;
 use smil_tree::Tree;
 use std::alloc::{AllocError, Global};
 use std::rc::Rc;
@@ -49,20 +52,36 @@ impl Duplicate for Chronicle {
 
 impl Chronicle {
     /// The chronicle of a document to which nothing has happened yet, with the places of its
-    /// elements and its instance times; unless memory runs out.
-    pub fn new(
+    /// elements; unless memory runs out.
+    pub fn new(alloc: Global, tree: &Tree, places: Rc<SerialTable>) -> Result<Chronicle, AllocError>
+        requires { IsIndex (serials (elements tree.now.nodes)) (get places.value) }
+        ensures { (log : List AnyLogEntry) → IfOk result (TellsNothing tree.now log) }
+    {
+        let shared = places.clone()?;
+        let instances = Instances::new(alloc, tree, shared)?;
+        Ok(Chronicle {
+            book: Book::new(alloc),
+            readings: Readings::new(alloc, tree, places, instances)?,
+        })
+    }
+
+    /// The same, where its clocks and its instance times are made already.
+    pub fn over(
         alloc: Global,
         tree: &Tree,
         places: Rc<SerialTable>,
+        clocks: Clocks,
         instances: Instances,
     ) -> Result<Chronicle, AllocError>
         requires places { IsIndex (serials (elements tree.now.nodes)) (get places.value) }
+        requires clocks { (log : List AnyLogEntry)
+            → AreClocksOf clocks (history_of tree.now log []) }
         requires instances { (log : List AnyLogEntry) → IsSettled instances tree.now log [] }
         ensures { (log : List AnyLogEntry) → IfOk result (TellsNothing tree.now log) }
     {
         Ok(Chronicle {
             book: Book::new(alloc),
-            readings: Readings::new(alloc, tree, places, instances)?,
+            readings: Readings::over(alloc, tree, places, clocks, instances)?,
         })
     }
 

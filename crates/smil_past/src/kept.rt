@@ -4,16 +4,15 @@ ghost use Rattle.std.specs.Prelude.{ℕ, ◌<◌, List, [], length, take, OnOk, 
 ghost use Rattle.smil_model.specs.declared.diary.Entry.{Entry as AnyEntry};
 ghost use Rattle.smil_model.specs.declared.diary.LogEntry.{LogEntry as AnyLogEntry};
 ghost use Rattle.smil_model.specs.document.Document.{Document};
-ghost use Rattle.smil_instances.specs.Instances.{IsSettled};
 ghost use Rattle.smil_past.specs.Chronicle.{Lags, TellsNothing};
 ghost use Rattle.smil_past.specs.Past.{IsPossible};
+ghost use Rattle.smil_past.specs.Readings.{AreReadingsOf};
 ghost use Rattle.smil_past.specs.Kept.{AreKept, AreWithin, IsBroughtUp};
 
 use super::chronicle::Chronicle;
 use super::document::PreparedDocument;
 use super::readings::Readings;
 use smil_diary::Book;
-use smil_instances::Instances;
 use smil_model::{Duplicate, Entry, Log};
 use smil_tree::Tree;
 use std::alloc::{AllocError, Global};
@@ -50,21 +49,25 @@ pub fn drop_later(kept: &mut Vec<KeptReadings>, len: usize)
 }
 
 /// The chronicle of the first entries of a book: as many as the last of the kept readings are of,
-/// and none where no readings are kept; unless memory runs out.
+/// and none where no readings are kept; unless memory runs out. What the document alone gives is
+/// shared with the present readings.
 pub fn nearest(
     alloc: Global,
     document: &PreparedDocument,
     book: &Book,
+    present: &Readings,
     kept: &[KeptReadings],
 ) -> Result<Chronicle, AllocError>
-    requires { AreWithin (length book.now) kept.now }
+    requires within { AreWithin (length book.now) kept.now }
+    requires present { (log : List AnyLogEntry) × (diary : List AnyEntry)
+        × AreReadingsOf present.now document.now log diary }
     ensures { (log : List AnyLogEntry) (len : ℕ)
         → IsPossible document.now log (take len book.now)
         → AreKept document.now log (take len book.now) kept.now
         → IfOk result (Lags document.now log (take len book.now)) }
 {
     let Some(last) = kept.last() else {
-        return nothing_yet(alloc, document);
+        return nothing_yet(alloc, document, present);
     };
     let mut book = book.copy()?;
     book.cut_back(last.len);
@@ -74,22 +77,24 @@ pub fn nearest(
     })
 }
 
-// The chronicle of a document to which nothing has happened yet.
-fn nothing_yet(alloc: Global, document: &PreparedDocument) -> Result<Chronicle, AllocError>
+// The chronicle of a document to which nothing has happened yet; what the document alone gives is
+// shared with readings of it.
+fn nothing_yet(
+    alloc: Global,
+    document: &PreparedDocument,
+    present: &Readings,
+) -> Result<Chronicle, AllocError>
+    requires { (log : List AnyLogEntry) × (diary : List AnyEntry)
+        × AreReadingsOf present.now document.now log diary }
     ensures { (log : List AnyLogEntry) → IfOk result (TellsNothing document.now log) }
 {
-    let instances = first_instances(alloc, document)?;
+    let tree = document.tree();
     let places = document.syncs().places().clone()?;
-    Chronicle::new(alloc, document.tree(), places, instances)
-}
-
-// The instance times of a document to which nothing has happened yet.
-fn first_instances(alloc: Global, document: &PreparedDocument) -> Result<Instances, AllocError>
-    ensures { (log : List AnyLogEntry)
-        → IfOk result (λ value. IsSettled value document.now log []) }
-{
-    let places = document.syncs().places().clone()?;
-    Instances::new(alloc, document.tree(), places)
+    let shared = places.clone()?;
+    let instances = present.instances.revised(tree, tree, shared)?;
+    let mut clocks = present.clocks.copy()?;
+    clocks.reset();
+    Chronicle::over(alloc, tree, places, clocks, instances)
 }
 
 /// Appends the entries that a chronicle lacks, and keeps the readings at the middle of what is

@@ -1,6 +1,6 @@
 //! What has happened in a presentation so far.
 
-ghost use Rattle.std.specs.Prelude.{◌≡◌, ◌==◌, ◌<◌, ◌≤◌, ℕ, List, [], ◌∷◌, ◌++◌, length, take, true, None, Some, is_some, OnOk, OnErr, IfOk, IfErr};
+ghost use Rattle.std.specs.Prelude.{◌≡◌, ◌==◌, ◌<◌, ◌≤◌, ℕ, List, [], ◌∷◌, ◌++◌, length, map, take, true, None, Some, is_some, OnOk, OnErr, IfOk, IfErr};
 ghost use Rattle.smil_model.specs.declared.limits.TheConstants as limits;
 ghost use Rattle.smil_model.specs.declared.diary.LogEntry.{LogEntry as AnyLogEntry};
 ghost use Rattle.smil_model.specs.declared.document.Node.{Node as AnyNode};
@@ -17,6 +17,9 @@ ghost use Rattle.smil_past.specs.Queues.{kept_queues};
 ghost use Rattle.smil_past.specs.Makeups.{makeup_of};
 ghost use Rattle.smil_past.specs.Syncs.{all_syncs};
 ghost use Rattle.smil_instances.specs.Instances.{IsSettled};
+ghost use Rattle.smil_instances.specs.Intake.{history_of as document_history};
+ghost use Rattle.smil_stretch.specs.NodeClocks.{idle_clock};
+ghost use Rattle.smil_past.specs.Chronicle.{TellsNothing};
 ghost use Rattle.smil_diary.specs.declared.fault.BookFault.TheVariants as book_fault;
 ghost use Rattle.smil_past.specs.Past.{IsPossible, MayFollow, MayHear, history_of, with_diary, with_heard, at_mark};
 
@@ -97,28 +100,26 @@ impl Past {
     {
         let graph = Graph::of(alloc, tree)?;
         let places = shared_places(alloc, graph.tree())?;
-        let instances = Instances::new(alloc, graph.tree(), places.clone()?)?;
-        Past::over(alloc, graph, log, places, instances)
+        let shared = places.clone()?;
+        let chronicle = Chronicle::new(alloc, graph.tree(), shared)?;
+        Past::over(alloc, graph, log, places, chronicle)
     }
 
-    // A document with its graph and its instance times, to which nothing has happened yet, with a
-    // log of which nothing was heard yet.
+    // A document with its graph and its chronicle, to which nothing has happened yet, with a log of
+    // which nothing was heard yet.
     fn over(
         alloc: Global,
         graph: Graph,
         log: Log,
         places: Rc<SerialTable>,
-        instances: Instances,
+        chronicle: Chronicle,
     ) -> Result<Past, AllocError>
         requires possible { IsPossible (document_of graph) log [] }
         requires places { IsIndex (serials (elements graph.nodes)) (get places.value) }
-        requires instances { (any : List AnyLogEntry)
-            → IsSettled instances (document_of graph) any [] }
+        requires nothing { TellsNothing (document_of graph) log chronicle }
         ensures { IfOk result (λ past. past
             ≡ record { document = document_of graph; log = log; diary = []; marked = None }) }
     {
-        let shared = places.clone()?;
-        let chronicle = Chronicle::new(alloc, graph.tree(), shared, instances)?;
         let dependents = chronicle.readings.instances.dependents();
         let syncs = Syncs::of(alloc, &graph, dependents, places)?;
         let notes = chronicle.readings.instances.notes()?;
@@ -135,7 +136,8 @@ impl Past {
 
     /// What has happened to the document of a graph, by a log and these entries of a diary; unless
     /// memory runs out. Where that document is alike to the one here, as `are_alike` of smil_graph
-    /// says, what the items follow from is shared.
+    /// says, what the items follow from is shared; where its nodes stand as the nodes here, the
+    /// places of the clocks.
     pub fn revised(&self, graph: Graph, log: Log, entries: &[Entry]) -> Result<Past, AllocError>
         requires { IsPossible (document_of graph) log entries.now }
         ensures { IfOk result (λ past. past ≡ record {
@@ -147,12 +149,41 @@ impl Past {
     {
         let places = self.places_of(graph.tree())?;
         let shared = places.clone()?;
-        let instances = self.instances().revised(self.tree(), graph.tree(), shared)?;
-        let mut past = Past::over(self.alloc, graph, log, places, instances)?;
+        let chronicle = self.begun_anew(graph.tree(), shared)?;
+        let mut past = Past::over(self.alloc, graph, log, places, chronicle)?;
         for entry in entries {
             push(&mut past, *entry)?;
         }
         Ok(past)
+    }
+
+    // The chronicle of an edited document to which nothing has happened yet, with the places of its
+    // elements.
+    fn begun_anew(&self, after: &Tree, places: Rc<SerialTable>) -> Result<Chronicle, AllocError>
+        requires { IsIndex (serials (elements after.now.nodes)) (get places.value) }
+        ensures { (log : List AnyLogEntry) → IfOk result (TellsNothing after.now log) }
+    {
+        let shared = places.clone()?;
+        let instances = self.instances().revised(self.tree(), after, shared)?;
+        let clocks = self.clocks_of(after)?;
+        Chronicle::over(self.alloc, after, places, clocks, instances)
+    }
+
+    // The clocks of an edited document to which nothing has happened yet: where its nodes stand as
+    // the nodes here, with the same table of their places.
+    fn clocks_of(&self, after: &Tree) -> Result<Clocks, AllocError>
+        ensures { (log : List AnyLogEntry)
+            → IfOk result (λ clocks. AreClocksOf clocks (document_history after.now log [])) }
+    {
+        self.tree().valid();
+        after.valid();
+        if stand_alike(self.tree(), after) {
+            let mut clocks = self.clocks().copy()?;
+            clocks.reset();
+            Ok(clocks)
+        } else {
+            Clocks::of(self.alloc, after, &Book::new(self.alloc))
+        }
     }
 
     // The places of the elements of an edited document: those of the document here where it has the
@@ -283,7 +314,8 @@ impl Past {
         heard.cut_back(log);
         let document = self.document.as_ref();
         let book = &self.chronicle.book;
-        let mut chronicle = nearest(self.alloc, document, book, &kept)?;
+        let present = &self.chronicle.readings;
+        let mut chronicle = nearest(self.alloc, document, book, present, &kept)?;
         let entries = &book.entries()[..diary];
         catch_up_keeping(&mut chronicle, &mut kept, document.tree(), &heard, entries)?;
         let notes = chronicle.readings.instances.notes()?;
@@ -421,6 +453,29 @@ fn have_same_elements(before: &Tree, after: &Tree) -> bool
         → serials (elements before.now.nodes) ≡ serials (elements after.now.nodes) }
 {
     before.elements() == after.elements()
+}
+
+// Whether the nodes of two documents have the same serials, in the same places, and time parents in
+// the same places.
+fn stand_alike(before: &Tree, after: &Tree) -> bool
+    ensures { result ≡ true → map (idle_clock before.now.nodes) before.now.nodes
+        ≡ map (idle_clock after.now.nodes) after.now.nodes }
+{
+    before.valid();
+    after.valid();
+    let mut left = after.nodes();
+    for node in before.nodes() {
+        let Some(other) = left.next() else {
+            return false;
+        };
+        if node.serial != other.serial {
+            return false;
+        }
+        if before.parent_place(node.serial) != after.parent_place(other.serial) {
+            return false;
+        }
+    }
+    left.next().is_none()
 }
 
 // Appends an entry of a diary, which therefore is not full.

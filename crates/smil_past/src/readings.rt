@@ -4,10 +4,12 @@ ghost use Rattle.std.specs.Prelude.{◌≡◌, List, [], OnOk, OnErr, IfOk};
 ghost use Rattle.smil_model.specs.declared.diary.LogEntry.{LogEntry as AnyLogEntry};
 ghost use Rattle.smil_model.specs.diary.Diary.{History, with_entry};
 ghost use Rattle.smil_laws.specs.Near.{HasNear};
+ghost use Rattle.smil_stretch.specs.Clocks.{AreClocksOf};
 ghost use Rattle.smil_instance_rows.specs.Notes.{GoesBackTheSame};
 ghost use Rattle.std.specs.FinMap.{get};
 ghost use Rattle.smil_model.specs.document.Document.{elements, serials};
 ghost use Rattle.smil_instances.specs.Instances.{IsSettled};
+ghost use Rattle.smil_instances.specs.Intake.{history_of};
 ghost use Rattle.smil_instances.specs.Spread.{IsIndex};
 ghost use Rattle.smil_past.specs.Readings.{AreReadingsOf, FollowsAll, IsLast, MayBeFollowed, MayGoBack};
 
@@ -69,8 +71,28 @@ impl Readings {
             → IfOk result (λ readings. AreReadingsOf readings tree.now log []) }
     {
         let book = Book::new(alloc);
+        let clocks = Clocks::of(alloc, tree, &book)?;
+        Readings::over(alloc, tree, places, clocks, instances)
+    }
+
+    // The readings of a document to which nothing has happened yet, with its clocks, which are
+    // those of no entry.
+    pub(crate) fn over(
+        alloc: Global,
+        tree: &Tree,
+        places: Rc<SerialTable>,
+        clocks: Clocks,
+        instances: Instances,
+    ) -> Result<Readings, AllocError>
+        requires places { IsIndex (serials (elements tree.now.nodes)) (get places.value) }
+        requires clocks { (log : List AnyLogEntry)
+            → AreClocksOf clocks (history_of tree.now log []) }
+        requires instances { (log : List AnyLogEntry) → IsSettled instances tree.now log [] }
+        ensures { (log : List AnyLogEntry)
+            → IfOk result (λ readings. AreReadingsOf readings tree.now log []) }
+    {
         Ok(Readings {
-            clocks: Clocks::of(alloc, tree, &book)?,
+            clocks,
             plays: Plays::new(alloc, tree, places)?,
             queues: Queues::new(alloc, tree)?,
             instances,

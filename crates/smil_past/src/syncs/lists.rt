@@ -4,8 +4,9 @@ ghost use Rattle.std.specs.Prelude.{◌≡◌, ◌++◌, IfOk, OnOk, None, Some,
 ghost use Rattle.smil_model.specs.declared.document.Node.{Node as AnyNode};
 ghost use Rattle.smil_model.specs.declared.document.Edge.TheVariants as edge;
 ghost use Rattle.smil_model.specs.document.Document.{elements, node_at};
-ghost use Rattle.smil_instances.specs.Dependents.{AreDependentsOf};
-ghost use Rattle.smil_past.specs.Syncs.{listed, offset_of, sync_by, syncs_of, IsListOf};
+ghost use Rattle.smil_graph.specs.Graph.{looped_at};
+ghost use Rattle.smil_instances.specs.Dependents.{AreDependentsOf, source_in};
+ghost use Rattle.smil_past.specs.Syncs.{listed, offset_of, sync_by, sync_from, syncs_of, IsListOf};
 
 use smallvec::SmallVec;
 use smil_graph::Graph;
@@ -76,16 +77,26 @@ impl Reader<'_> {
     {
         let mut syncs = SmallVec::new(self.alloc);
         for (at, item) in items.slice().iter().enumerate() {
-            let source = self.dependents.source(Cell {
+            let cell = Cell {
                 row: place,
                 side,
                 item: at,
-            });
-            let looped = self.graph.looped(who, side, at);
-            let sync = sync_by(looped, item, source);
-            push_some(&mut syncs, sync)?;
+            };
+            push_some(&mut syncs, self.sync(cell, who, item))?;
         }
         Ok(syncs)
+    }
+
+    // What the item of a cell waits for, whose element has this serial.
+    fn sync(&self, cell: Cell, who: u32, item: &Item) -> Option<Syncbase>
+        ensures { result ≡ sync_by (looped_at self.now.graph.now.nodes who cell.side cell.item)
+            item.now (source_in self.now.dependents.now.rows cell) }
+    {
+        let offset = offset_of(item)?;
+        if self.graph.looped(who, cell.side, cell.item) {
+            return None;
+        }
+        sync_from(offset, self.dependents.source(cell))
     }
 
     // What the item waits for that stands for a begin list where there is none: an offset of 0, or
@@ -102,15 +113,13 @@ impl Reader<'_> {
             item: 0,
         });
         let mut syncs = SmallVec::new(self.alloc);
-        push_some(
-            &mut syncs,
-            sync_by(false, &Item::Offset { offset: 0 }, source),
-        )?;
+        push_some(&mut syncs, sync_from(0, source))?;
         Ok(syncs)
     }
 }
 
 // Appends what there is.
+#[inline(always)]
 fn push_some(syncs: &mut SmallVec<Syncbase, 1>, sync: Option<Syncbase>) -> Result<(), AllocError>
     ensures { OnOk result (syncs.new.items ≡ syncs.old.items ++ listed sync) }
 {
@@ -120,14 +129,10 @@ fn push_some(syncs: &mut SmallVec<Syncbase, 1>, sync: Option<Syncbase>) -> Resul
     Ok(())
 }
 
-// What an item waits for, which is looped or not and has this source.
-fn sync_by(looped: bool, item: &Item, source: Source) -> Option<Syncbase>
-    ensures { result ≡ sync_by looped item.now source }
+// What an item with this offset and this source waits for, which is not looped.
+fn sync_from(offset: i64, source: Source) -> Option<Syncbase>
+    ensures { result ≡ sync_from (Some offset) source }
 {
-    if looped {
-        return None;
-    }
-    let offset = offset_of(item)?;
     match source {
         Source::Syncbase { of, edge } => Some(Syncbase { of, edge, offset }),
         _ => None,

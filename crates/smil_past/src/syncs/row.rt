@@ -58,7 +58,9 @@ impl SyncbaseRow {
             return Err(AllocError);
         };
         let mut syncs = begins;
-        syncs.extend_from_slice(ends)?;
+        if !ends.is_empty() {
+            syncs.extend_from_slice(ends)?;
+        }
         Ok(SyncbaseRow {
             serial,
             begins: count,

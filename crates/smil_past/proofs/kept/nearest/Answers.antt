@@ -21,7 +21,7 @@ pub cut_back-requires : goal.cut_back-requires
 cut_back-requires c =
     let kept = c.args.kept.now in
     let k = c.in-Some.last.now in
-    let within : k.len ≤ length c.args.book.now = kept_at (λ (k : KeptReadings). k.len ≤ length c.args.book.now) kept (length kept - 1) k (sym c.in-Some.ensures.value) c.requires in
+    let within : k.len ≤ length c.args.book.now = kept_at (λ (k : KeptReadings). k.len ≤ length c.args.book.now) kept (length kept - 1) k (sym c.in-Some.ensures.value) c.requires.within in
     subst (λ (ds : List Entry). k.len ≤ length ds) (sym c.in_ok-book.ensures) within
 
 pub returns : goal.returns

@@ -6,12 +6,13 @@ use Rattle.smil_model.specs.document.Document.{Document}
 use Rattle.smil_past.specs.declared.kept.KeptReadings.{KeptReadings}
 use Rattle.smil_past.specs.Past.{IsPossible, MarkedHistory}
 use Rattle.smil_past.specs.Chronicle.{Lags}
+use Rattle.smil_past.specs.Readings.{AreReadingsOf}
 use Rattle.smil_past.specs.Kept.{AreKept, AreWithin, KeepsPast}
 use Rattle.smil_past.proofs.KeptFronts.{keeps_brought, kept_there, kept_within}
 use Rattle.smil_past.proofs.past.Past.front.Goals as goal
 
-pub nearest-requires : goal.nearest-requires
-nearest-requires c =
+pub nearest-requires-clause-within : goal.nearest-requires-clause-within
+nearest-requires-clause-within c =
     let was = c.self.inside in
     let document = was.document.value in
     let log = take c.args.log was.log in
@@ -21,6 +22,14 @@ nearest-requires c =
     let before = subst (λ (ks : List KeptReadings). AreKept document was.log book ks) (sym (ap (λ ks. ks.items) c.replace-kept.ensures.value)) c.self.invariant.kept_are in
     let are = kept_there document was.log book c.args.log c.args.diary c.replace-kept.result.items left possible c.drop_later.ensures before in
     subst (AreWithin _) (sym c.deref.ensures.value) (kept_within document log book c.args.diary left are)
+
+pub nearest-requires-clause-present : goal.nearest-requires-clause-present
+nearest-requires-clause-present c =
+    let was = c.self.inside in (
+      was.log,
+      was.chronicle.book,
+      subst (λ (d : Document). AreReadingsOf was.chronicle.readings d was.log was.chronicle.book) (sym c.as_ref-document.ensures) c.self.invariant.tells.readings_are,
+    )
 
 pub catch_up_keeping-requires-clause-lags : goal.catch_up_keeping-requires-clause-lags
 catch_up_keeping-requires-clause-lags c =

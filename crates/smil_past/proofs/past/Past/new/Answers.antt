@@ -3,14 +3,14 @@ use Rattle.std.specs.Prelude.{IfOk}
 use Rattle.std.proofs.lemmas.Result.{IfOk-at_ok}
 use Rattle.std.specs.FinMap.{get}
 use Rattle.smil_model.specs.document.Document.{Document, elements, serials}
-use Rattle.smil_instances.specs.Instances.{IsSettled}
 use Rattle.smil_instances.specs.Spread.{IsIndex}
+use Rattle.smil_past.specs.Chronicle.{TellsNothing}
 use Rattle.smil_past.specs.Past.{IsPossible, MarkedHistory, unmarked}
 use Rattle.smil_past.proofs.past.Past.new.Goals as goal
 
 pub new-requires : goal.new-requires
 new-requires c =
-    let same : c.in_ok-places.places.value ≡ c.in_ok-clone.field-0.value = search rules in
+    let same : c.in_ok-places.places.value ≡ c.in_ok-shared.shared.value = search rules in
     subst (λ table. IsIndex (serials (elements c.tree-2.result.now.nodes)) (get table)) same
     (subst (λ (d : Document). IsIndex (serials (elements d.nodes)) (get c.in_ok-places.places.value)) (c.tree.ensures ∙ sym c.tree-2.ensures) c.in_ok-places.ensures)
 
@@ -22,10 +22,10 @@ pub over-requires-clause-places : goal.over-requires-clause-places
 over-requires-clause-places c =
     subst (λ (d : Document). IsIndex (serials (elements d.nodes)) (get c.in_ok-places.places.value)) c.tree.ensures c.in_ok-places.ensures
 
-pub over-requires-clause-instances : goal.over-requires-clause-instances
-over-requires-clause-instances c = λ log.
-    subst (λ (d : Document). IsSettled c.in_ok-instances.instances d log []) c.tree-2.ensures
-    (IfOk-at_ok (λ value. IsSettled value c.tree-2.result.now log []) c.in_ok-instances.was (c.new.ensures log))
+pub over-requires-clause-nothing : goal.over-requires-clause-nothing
+over-requires-clause-nothing c =
+    subst (λ (d : Document). TellsNothing d c.args.log c.in_ok-chronicle.chronicle) c.tree-2.ensures
+    (IfOk-at_ok (TellsNothing c.tree-2.result.now c.args.log) c.in_ok-chronicle.was (c.new.ensures c.args.log))
 
 pub returns : goal.returns
 returns c =

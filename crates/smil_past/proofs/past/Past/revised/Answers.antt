@@ -8,31 +8,26 @@ use Rattle.smil_model.specs.document.Document.{Document, elements, serials}
 use Rattle.smil_laws.proofs.Lists.{take-more_at}
 use Rattle.smil_graph.specs.Graph.{document_of}
 use Rattle.smil_stretch.proofs.IdleClocks.{no_entry}
-use Rattle.smil_instances.specs.Dependents.{AreDependentsOf}
-use Rattle.smil_instances.specs.Instances.{IsSettled}
 use Rattle.smil_instances.specs.Spread.{IsIndex}
+use Rattle.smil_past.specs.Chronicle.{TellsNothing}
 use Rattle.smil_past.specs.Past.{MarkedHistory, MayFollow, with_diary}
 use Rattle.smil_past.proofs.FirstEntries.{follows_at, possible_before}
 use Rattle.smil_past.proofs.past.Past.revised.Goals as goal
 
-pub revised-requires-clause-dependents : goal.revised-requires-clause-dependents
-revised-requires-clause-dependents c =
-    subst (λ (d : Document). AreDependentsOf d.nodes c.instances.result.now.dependents) (sym c.tree-2.ensures) c.instances.ensures.dependents
-
-pub revised-requires-clause-places : goal.revised-requires-clause-places
-revised-requires-clause-places c =
+pub begun_anew-requires : goal.begun_anew-requires
+begun_anew-requires c =
     let same : c.in_ok-places.places.value ≡ c.in_ok-shared.shared.value = search rules in
-    subst (λ table. IsIndex (serials (elements c.tree-3.result.now.nodes)) (get table)) same
-    (subst (λ (d : Document). IsIndex (serials (elements d.nodes)) (get c.in_ok-places.places.value)) (c.tree.ensures ∙ sym c.tree-3.ensures) c.in_ok-places.ensures)
+    subst (λ table. IsIndex (serials (elements c.tree-2.result.now.nodes)) (get table)) same
+    (subst (λ (d : Document). IsIndex (serials (elements d.nodes)) (get c.in_ok-places.places.value)) (c.tree.ensures ∙ sym c.tree-2.ensures) c.in_ok-places.ensures)
 
 pub over-requires-clause-places : goal.over-requires-clause-places
 over-requires-clause-places c =
     subst (λ (d : Document). IsIndex (serials (elements d.nodes)) (get c.in_ok-places.places.value)) c.tree.ensures c.in_ok-places.ensures
 
-pub over-requires-clause-instances : goal.over-requires-clause-instances
-over-requires-clause-instances c = λ log.
-    subst (λ (d : Document). IsSettled c.in_ok-instances.instances d log []) c.tree-3.ensures
-    (IfOk-at_ok (λ value. IsSettled value c.tree-3.result.now log []) c.in_ok-instances.was (c.revised.ensures log))
+pub over-requires-clause-nothing : goal.over-requires-clause-nothing
+over-requires-clause-nothing c =
+    subst (λ (d : Document). TellsNothing d c.args.log c.in_ok-chronicle.chronicle) c.tree-2.ensures
+    (IfOk-at_ok (TellsNothing c.tree-2.result.now c.args.log) c.in_ok-chronicle.was (c.begun_anew.ensures c.args.log))
 
 pub over-requires-clause-possible : goal.over-requires-clause-possible
 over-requires-clause-possible c = possible_before (document_of c.args.graph) c.args.log c.args.entries.now c.requires

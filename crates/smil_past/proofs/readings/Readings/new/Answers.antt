@@ -1,8 +1,6 @@
-use Rattle.std.proofs.Common.{◌≡◌, refl, sym, []}
+use Rattle.std.proofs.Common.{refl, sym, []}
 use Rattle.std.proofs.lemmas.Result.{IfOk-at_ok}
 use Rattle.smil_stretch.specs.Clocks.{AreClocksOf}
-use Rattle.smil_past.specs.Played.{all_played}
-use Rattle.smil_past.specs.Queues.{kept_queues}
 use Rattle.smil_instances.specs.Intake.{history_of}
 use Rattle.smil_past.proofs.readings.Readings.new.Goals as goal
 
@@ -12,14 +10,8 @@ of-requires c = record {
   history = record { same_nodes = refl; same_diary = sym c.new-book.ensures; lawful = record { moments = refl; steps = tt } };
 }
 
-pub returns : goal.returns
-returns c = λ log.
+pub over-requires-clause-clocks : goal.over-requires-clause-clocks
+over-requires-clause-clocks c = λ log.
     let h = history_of c.args.tree.now log [] in
-    record {
-      clocks_are =
-          IfOk-at_ok (λ clocks. AreClocksOf clocks h) c.in_ok-of.was
-          (c.of.ensures h (record { same_nodes = refl; same_diary = sym c.new-book.ensures; lawful = record { moments = refl; steps = tt } }));
-      plays_are = IfOk-at_ok (λ plays. plays ≡ all_played h) c.in_ok-new.was (c.new.ensures h refl);
-      queues_are = IfOk-at_ok (λ queues. queues ≡ kept_queues h) c.in_ok-new-2.was (c.new-2.ensures log);
-      instances_are = c.requires.instances log;
-    }
+    IfOk-at_ok (λ clocks. AreClocksOf clocks h) c.in_ok-clocks.was
+    (c.of.ensures h (record { same_nodes = refl; same_diary = sym c.new-book.ensures; lawful = record { moments = refl; steps = tt } }))

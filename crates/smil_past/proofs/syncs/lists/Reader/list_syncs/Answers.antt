@@ -1,8 +1,11 @@
-use Rattle.std.proofs.Common.{◌≡◌, ◌∙◌, ap, sym, List, Some, length, arith}
+use Rattle.std.proofs.Common.{◌≡◌, ◌∙◌, ap, sym, refl, List, Some, length, arith}
 use Rattle.std.specs.Prelude.{slice_get, filter_map}
 use Rattle.std.proofs.lemmas.List.{take_all}
 use Rattle.std.proofs.lemmas.Option.{slice_get-get_or}
 use Rattle.smil_model.specs.declared.document.Item.{Item}
+use Rattle.smil_instance_rows.specs.declared.cell.Cell.{Cell}
+use Rattle.smil_graph.specs.Graph.{looped_at}
+use Rattle.smil_instances.specs.Dependents.{source_in}
 use Rattle.smil_past.specs.Syncs.{sync_of}
 use Rattle.smil_past.proofs.ItemReferences.{item_told, list_more}
 use Rattle.smil_past.proofs.syncs.lists.Reader.list_syncs.Goals as goal
@@ -15,8 +18,9 @@ loop-at-preserved c = λ e list.
     let item = c.item-item.result in
     let there : slice_get items k ≡ Some item =
     ap (λ (xs : List Item). slice_get xs k) (sym c.slice-item-items.ensures) ∙ slice_get-get_or c.slice-item-items.result.now k item c.loop-at-test.true ∙ ap Some (sym c.item-item.is) in
-    list_more nodes e.serial items k item c.loop-at.syncs.items c.push_some.new.syncs.items c.sync_by-sync.result there (c.loop-at.invariant e list)
-    (c.sync_by-sync.ensures ∙ item_told nodes c.args.place c.args.who k c.args.side e items item c.args.self.now.dependents.now c.looped-looped.result c.source-source.result c.requires list there c.looped-looped.ensures c.source-source.ensures)
+    let cell : Cell = record { row = c.args.place; side = c.args.side; item = k } in
+    list_more nodes e.serial items k item c.loop-at.syncs.items c.push_some.new.syncs.items c.sync.result there (c.loop-at.invariant e list)
+    (c.sync.ensures ∙ item_told nodes c.args.place c.args.who k c.args.side e items item c.args.self.now.dependents.now (looped_at nodes c.args.who c.args.side k) (source_in c.args.self.now.dependents.now.rows cell) c.requires list there refl refl)
     c.in_ok-push_some.ensures
 
 pub returns : goal.returns
