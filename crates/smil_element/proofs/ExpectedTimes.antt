@@ -1,6 +1,6 @@
 -- Instance times with those put in that are expected.
 use Rattle.std.proofs.Common.{◌≡◌, refl, sym, ◌∙◌, ap, ℕ, ◌+◌, ℤ, List, [], ◌∷◌, ◌++◌, length, Bool, true, false, take, subst, arith}
-use Rattle.std.specs.Prelude.{Option, None, Some, ◌==◌, ◌||◌, if◌then◌else◌, ◌+ℤ◌, int_le, map, filter_map, flat_map, option_map, option_to_list, slice_get}
+use Rattle.std.specs.Prelude.{Option, None, Some, ◌==◌, ◌||◌, if◌then◌else◌, ◌+ℤ◌, int_le, map, filter_map, flat_map, is_some, option_map, option_to_list, slice_get}
 use Rattle.std.proofs.lemmas.List.Concat.{flat_map-append}
 use Rattle.std.proofs.lemmas.List.Elements.{filter_map-append}
 use Rattle.smil_model.specs.declared.times.Time.{Time}
@@ -100,6 +100,12 @@ module _ (h : History) (now : ℤ) (e : Node) where
       ∙ ap (λ ts. poured time_le ts (ends_of (row_of h e).ends)) (sym (syncs_tell h intervals now e End))
       ∙ sym (are_merged h intervals now e).ends
 
+  -- where none is expected the settled ones are all
+  pub begins_alone : (intervals : ℕ → Option Interval) → flat_map (expected_by h intervals now e.serial) (syncs_of h.nodes Begin e) ≡ [] → settled_begins h now e ≡ begin_times h intervals now e
+  begins_alone intervals none =
+      ap (λ ts. with_times int_le number_of ts (settled_begins h now e)) (sym none)
+      ∙ begins_merged intervals
+
   -- where nothing is waited for the settled ones are all
   pub begins_settled : (intervals : ℕ → Option Interval) → syncs_of h.nodes Begin e ≡ [] → settled_begins h now e ≡ begin_times h intervals now e
   begins_settled intervals none =
@@ -155,3 +161,11 @@ side_told nodes e End = refl
 pub none_there : (syncs : List Syncbase) → is_empty syncs ≡ true → syncs ≡ []
 none_there [] is = refl
 none_there (s ∷ ss) is = absurd (cc)
+
+pub none_waited : (syncs : List Syncbase) → (length syncs == 0) ≡ true → syncs ≡ []
+none_waited [] is = refl
+none_waited (s ∷ ss) is = absurd (grind (arith, is))
+
+pub is_not_some : {A : Type 0} (o : Option A) → is_some o ≡ false → None ≡ o
+is_not_some None is = refl
+is_not_some (Some x) is = absurd (cc)

@@ -18,4 +18,6 @@ pub mod PresentMoment
 pub mod TimeParents
 pub mod IndexedElements
 pub mod OutcomeParts
+pub mod EndLists
+pub mod AbsentIntervals
 mod SameNumbers

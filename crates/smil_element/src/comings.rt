@@ -1,14 +1,15 @@
 //! What comes of one element.
 
-ghost use Rattle.std.specs.Prelude.{◌≡◌, ◌↔◌, ◌+ℤ◌, ◌-ℤ◌, [], ℕ, IsTrue, None, Some, true, not, ◌&&◌, ◌||◌, is_some, IfSome};
+ghost use Rattle.std.specs.Prelude.{◌≡◌, ◌↔◌, ◌+ℤ◌, ◌-ℤ◌, [], ℕ, IsTrue, None, Some, true, not, ◌&&◌, ◌||◌, is_some, slice_get, IfSome};
 ghost use Rattle.smil_model.specs.declared.times.Time.TheVariants.{At};
 ghost use Rattle.smil_model.specs.Times.{IsNear, later_time, time_le};
 ghost use Rattle.smil_model.specs.diary.Diary.{iteration};
+ghost use Rattle.smil_model.specs.diary.Lawful.{has_element};
 ghost use Rattle.smil_model.specs.diary.Clocks.{iteration_start, play_start, run, stands, to_document as document_time};
 ghost use Rattle.smil_model.specs.declared.document.Node.{Node as AnyNode};
 ghost use Rattle.smil_model.specs.document.Document.{elements, node_at};
 ghost use Rattle.smil_laws.specs.Near.{IsIntervalNear};
-ghost use Rattle.smil_past.specs.Past.{history_of};
+ghost use Rattle.smil_past.specs.Past.{IsPresent, history_of};
 ghost use Rattle.smil_element.specs.Element.{and_coming, both, goes_on, moved_by};
 ghost use Rattle.smil_model.specs.happening.Keys.{coming_begin, coming_by, coming_end, coming_repeat, coming_repeat_at};
 ghost use Rattle.smil_element.specs.Changes.{nothing_due};
@@ -17,7 +18,8 @@ ghost use Rattle.smil_element.specs.Subject.{IsFound};
 
 use super::evaluation::Evaluation;
 use super::happening::{Change, DueChange};
-use super::subject::Subject;
+use super::present::Present;
+use super::subject::{Subject, subject_at};
 use smil_duration::Bounds;
 use smil_model::{BEGIN_CLASS, EMPTY_END_CLASS, END_CLASS, Interval, Key, Play, Time, later};
 use std::marker::Model;
@@ -312,8 +314,8 @@ fn repeat_of(subject: &Subject<'_>, simple: Time) -> Repeated
 {
     if may_repeat(subject) {
         // A copy, so that the subject itself need not stand in memory where nothing repeats.
-        let subject = *subject;
-        repeat_after(&subject, simple)
+        let present = subject.present;
+        repeat_found(&present, subject.index, simple)
     } else {
         no_repeat()
     }
@@ -330,9 +332,27 @@ fn may_repeat(subject: &Subject<'_>) -> bool
     subject.row.makeup().bounds.repeats() && !subject.clocks.own_stands
 }
 
+// The repeat of the element with this index that may repeat; what is told of it is found again.
+#[inline(never)]
+fn repeat_found(present: &Present<'_>, index: usize, simple: Time) -> Repeated
+    requires element { has_element present.now.past.now.document.nodes present.now.who ≡ true }
+    requires index { slice_get (elements present.now.past.now.document.nodes) index
+        ≡ node_at (elements present.now.past.now.document.nodes) present.now.who }
+    requires moment { IsPresent present.now.past.now present.now.moment }
+    ensures zero { IsZeroRepeat result.comes result.moment result.start }
+    ensures repeat { (place : ℕ) (e : AnyNode)
+        → node_at (elements present.now.past.now.document.nodes) present.now.who
+        ≡ Some e → and_coming (repeat_at place present.now.who result) []
+        ≡ coming_repeat_at (history_of present.now.past.now) present.now.moment
+        place e simple
+        (later_time simple (iteration_start (history_of present.now.past.now)
+        present.now.who)) }
+{
+    repeat_after(&subject_at(present, index), simple)
+}
+
 // The repeat of an element that may repeat, where its iteration ends at a number and another
 // follows.
-#[inline(never)]
 fn repeat_after(subject: &Subject<'_>, simple: Time) -> Repeated
     requires { IsFound subject.now }
     ensures zero { IsZeroRepeat result.comes result.moment result.start }

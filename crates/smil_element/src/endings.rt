@@ -1,6 +1,6 @@
 //! When elements end for their containers, and when a container's time children end.
 
-ghost use Rattle.std.specs.Prelude.{◌≡◌, ◌↔◌, IsTrue, ℤ, Some, true, map, option_map, IfOk, OnOk, if◌then◌else◌};
+ghost use Rattle.std.specs.Prelude.{◌≡◌, ◌↔◌, IsTrue, ℕ, ℤ, Some, true, map, option_map, slice_get, IfOk, OnOk, if◌then◌else◌};
 ghost use Rattle.smil_model.specs.declared.document.Endsync.{Endsync as AnyEndsync};
 ghost use Rattle.smil_model.specs.declared.document.Node.{Node as AnyNode};
 ghost use Rattle.smil_model.specs.declared.interval.Interval.{Interval as AnyInterval};
@@ -11,7 +11,9 @@ ghost use Rattle.smil_model.specs.diary.Lawful.{has_element};
 ghost use Rattle.smil_model.specs.interval.Current.{child_end, is_named_child};
 ghost use Rattle.smil_model.specs.interval.Durations.{container_duration};
 ghost use Rattle.smil_past.specs.declared.plays.facts.PastInterval.{PastInterval as AnyPast};
+ghost use Rattle.smil_model.specs.diary.Diary.{History};
 ghost use Rattle.smil_past.specs.Past.{history_of};
+ghost use Rattle.smil_past.specs.Played.{played as kept_of};
 ghost use Rattle.smil_instance_rows.specs.Places.{last_alone};
 ghost use Rattle.smil_element.specs.Endings.{ending_by};
 
@@ -19,7 +21,7 @@ use super::facts::{attrs_of, kind_of, played_of};
 use super::intervals::{Container, Intervals};
 use smil_endsync::{by_endsync, implicit};
 use smil_model::{Attrs, ChildEnd, Endsync, Interval, Kind, Time};
-use smil_past::{Past, PastInterval};
+use smil_past::{Past, PastInterval, PlayFacts};
 use std::alloc::AllocError;
 
 /// The first and the latest end of an element since its container's iteration began, in
@@ -49,7 +51,26 @@ pub fn ending_of(past: &Past, who: u32, interval: Option<Interval>) -> Ending
     requires { has_element past.now.document.nodes who ≡ true }
     ensures { result ≡ ending_by (history_of past.now) interval who }
 {
-    let played = played_of(past, who);
+    ending_from(played_of(past, who), interval)
+}
+
+/// The first and the latest end of the element with this index among the elements in document
+/// order, from 0, that has this interval. It takes no look-up, and no memory.
+pub fn ending_at(past: &Past, who: u32, index: usize, interval: Option<Interval>) -> Ending
+    requires element { has_element past.now.document.nodes who ≡ true }
+    requires index { slice_get (elements past.now.document.nodes) index
+        ≡ node_at (elements past.now.document.nodes) who }
+    ensures { result ≡ ending_by (history_of past.now) interval who }
+{
+    ending_from(past.plays().at(index), interval)
+}
+
+// The first and the latest end of an element that has this interval, by what is kept of its plays.
+#[inline(always)]
+fn ending_from(played: &PlayFacts, interval: Option<Interval>) -> Ending
+    ensures { (h : History) (who : ℕ) → played.now ≡ kept_of h who
+        → result ≡ ending_by h interval who }
+{
     let coming = coming_end(interval);
     let deferred = played.shown_deferred.is_some();
     Ending {

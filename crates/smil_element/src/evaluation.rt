@@ -1,6 +1,6 @@
 //! One evaluation of one element.
 
-ghost use Rattle.std.specs.Prelude.{◌≡◌, ◌≤◌, ◌+◌, ℕ, Some, true, false, Option, IfOk, OnOk};
+ghost use Rattle.std.specs.Prelude.{◌≡◌, ◌≤◌, ◌+◌, ℕ, Some, true, false, Option, is_some, IfOk, OnOk};
 ghost use Rattle.smil_model.specs.declared.document.Node.{Node as AnyNode};
 ghost use Rattle.smil_model.specs.declared.interval.Interval.{Interval as AnyInterval};
 ghost use Rattle.smil_model.specs.document.Document.{elements, node_at, is_container_kind};
@@ -19,7 +19,7 @@ use super::present::Present;
 use super::subject::Subject;
 use smil_duration::implicit_by_kind;
 use smil_interval::{Steps, evaluate};
-use smil_model::{ChildEnd, Edge, Interval, Kind, Time};
+use smil_model::{ChildEnd, Edge, EndList, Interval, Kind, Time};
 use std::alloc::{AllocError, Global};
 use std::sync::ledger::Ledger;
 
@@ -105,8 +105,22 @@ fn begins_of<'a, J: Intervals>(
     Ok(times)
 }
 
-// The end instance times of an element: those that the diary gives, where it alone gives them, or
-// else those that the list is filled with. Refused where memory runs out.
+// Whether an element has an end list.
+#[inline(always)]
+fn has_end_list(subject: &Subject<'_>) -> bool
+    requires { IsFound subject.now }
+    ensures { (e : AnyNode)
+        → node_at (elements subject.now.present.past.now.document.nodes) subject.now.present.who
+        ≡ Some e → result ≡ is_some e.attrs.«end» }
+{
+    match subject.row.makeup().end_list {
+        EndList::Absent => false,
+        _ => true,
+    }
+}
+
+// The end instance times of an element: none without an end list; those that the diary gives, where
+// it alone gives them; or else those that the list is filled with. Refused where memory runs out.
 fn ends_of<'a, J: Intervals>(
     reading: &EvaluationInput<'a, '_, J>,
     times: &'a mut Vec<Time>,
@@ -119,8 +133,11 @@ fn ends_of<'a, J: Intervals>(
         ≡ end_times (history_of reading.now.subject.now.present.past.now)
         (J.given reading.now.intervals.now) reading.now.subject.now.present.moment e) }
 {
-    if is_settled(reading.subject, Edge::End) {
-        let subject = reading.subject;
+    let subject = reading.subject;
+    if !has_end_list(subject) {
+        return Ok(&[]);
+    }
+    if is_settled(subject, Edge::End) {
         return Ok(subject.present.past.instances().ends_at(subject.index));
     }
     pour_ends(reading, times)?;

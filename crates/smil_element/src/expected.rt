@@ -1,6 +1,6 @@
 //! Instance times, with those that follow from the intervals of other elements.
 
-ghost use Rattle.std.specs.Prelude.{◌≡◌, Some, None, ◌||◌, if◌then◌else◌, flat_map, option_to_list, IfSome, OnOk};
+ghost use Rattle.std.specs.Prelude.{◌≡◌, [], ℕ, ℤ, Some, None, true, ◌||◌, if◌then◌else◌, flat_map, option_to_list, IfSome, OnOk};
 ghost use Rattle.smil_model.specs.declared.document.Node.{Node as AnyNode};
 ghost use Rattle.smil_model.specs.document.Document.{elements, node_at};
 ghost use Rattle.smil_model.specs.diary.Clocks.{between, outer_stands};
@@ -17,7 +17,7 @@ use super::intervals::Intervals;
 use super::subject::Subject;
 use smil_instance_rows::{Instant, put_in};
 use smil_model::{Edge, Time, moved};
-use smil_past::Syncbase;
+use smil_past::{Past, Syncbase};
 use std::alloc::AllocError;
 
 /// What an evaluation reads: an element at a moment, with what is found of it, and the intervals of
@@ -39,8 +39,9 @@ pub fn expected<J: Intervals>(reading: &EvaluationInput<J>, sync: Syncbase) -> O
         (J.given reading.now.intervals.now) reading.now.subject.now.present.moment
         reading.now.subject.now.present.who sync.of sync.offset sync.edge }
 {
-    let value = edge_value(reading, sync)?;
-    let shown = shown_here(reading.subject, sync.of, value)?;
+    let subject = reading.subject;
+    let value = edge_value(subject.present.past, reading.intervals, sync)?;
+    let shown = shown_here(subject, sync.of, value)?;
     Some(moved(shown, sync.offset))
 }
 
@@ -70,17 +71,15 @@ fn shown_here(subject: &Subject<'_>, from: u32, value: i64) -> Option<i64>
 
 // The begin of an interval before it has happened, or its end where that is a number.
 #[inline(always)]
-fn edge_value<J: Intervals>(reading: &EvaluationInput<J>, sync: Syncbase) -> Option<i64>
-    ensures value { result ≡ interval_edge sync.edge
-        (is_active reading.now.subject.now.present.past.now.diary sync.of)
-        (J.given reading.now.intervals.now sync.of) }
+fn edge_value<J: Intervals>(past: &Past, intervals: &J, sync: Syncbase) -> Option<i64>
+    ensures value { result ≡ interval_edge sync.edge (is_active past.now.diary sync.of)
+        (J.given intervals.now sync.of) }
     ensures near { IfSome result IsNear }
 {
-    let interval = reading.intervals.interval(sync.of)?;
+    let interval = intervals.interval(sync.of)?;
     match sync.edge {
         Edge::Begin => {
-            let subject = reading.subject;
-            if subject.present.past.active(sync.of) {
+            if past.active(sync.of) {
                 None
             } else {
                 Some(interval.begin)
@@ -91,6 +90,23 @@ fn edge_value<J: Intervals>(reading: &EvaluationInput<J>, sync: Syncbase) -> Opt
             _ => None,
         },
     }
+}
+
+// Whether a list of at most one item that waits for another element gives no time by the interval
+// of that; false of a longer one.
+#[inline(always)]
+pub(crate) fn gives_none<J: Intervals>(past: &Past, intervals: &J, syncs: &[Syncbase]) -> bool
+    ensures { result ≡ true → (now : ℤ) (who : ℕ)
+        → flat_map (expected_by (history_of past.now) (J.given intervals.now) now who) syncs.now
+        ≡ [] }
+{
+    let Some((sync, rest)) = syncs.split_first() else {
+        return true;
+    };
+    if !rest.is_empty() {
+        return false;
+    }
+    edge_value(past, intervals, *sync).is_none()
 }
 
 /// The begin instance times of an element, in rising order: those that the diary gives, with the

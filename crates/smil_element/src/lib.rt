@@ -13,11 +13,12 @@ mod happening;
 pub mod intervals;
 pub mod outcome;
 pub mod present;
+mod spent;
 pub mod subject;
 pub mod view;
 
 pub use comings::{DueChanges, is_same_comings};
-pub use endings::{Ending, ending_of, is_named, is_same_ending, walked_duration};
+pub use endings::{Ending, ending_at, ending_of, is_named, is_same_ending, walked_duration};
 pub use evaluation::Room;
 pub use happening::{Change, DueChange, Parts, group_of};
 pub use intervals::{Container, Containers, Intervals};

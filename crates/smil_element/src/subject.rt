@@ -55,13 +55,36 @@ pub fn subject_at<'a>(present: &Present<'a>, index: usize) -> Subject<'a>
     ensures same { result.present ≡ present.now }
     ensures found { IsFound result }
 {
+    let above = parent_play(present.past, present.who, index);
+    subject_under(present, index, above)
+}
+
+// The element with this index at a moment, with what is found of it, by whether its time parent is
+// alive and when the present iteration of that starts.
+#[inline(always)]
+pub(crate) fn subject_under<'a>(
+    present: &Present<'a>,
+    index: usize,
+    above: ParentPlay,
+) -> Subject<'a>
+    requires element { has_element present.now.past.now.document.nodes present.now.who ≡ true }
+    requires index { slice_get (elements present.now.past.now.document.nodes) index
+        ≡ node_at (elements present.now.past.now.document.nodes) present.now.who }
+    requires moment { IsPresent present.now.past.now present.now.moment }
+    requires alive { above.alive ≡ lives_under
+        (time_parent present.now.past.now.document.nodes present.now.who)
+        present.now.past.now.diary }
+    requires start { above.start
+        ≡ parent_start (history_of present.now.past.now) present.now.who }
+    ensures same { result.present ≡ present.now }
+    ensures found { IsFound result }
+{
     let past = present.past;
     past.possible();
     makeups_tell_places();
     let played = past.plays().at(index);
     let row = past.syncs().at(index);
     let makeup = row.makeup();
-    let above = parent_play(past, present.who, index);
     let clocks = past
         .clocks()
         .readings_at(makeup.node as usize, present.moment);

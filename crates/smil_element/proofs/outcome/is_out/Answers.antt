@@ -48,4 +48,4 @@ returns-clause-out c = λ out.
     let nodes = present.past.now.document.nodes in
     let h = history_of present.past.now in
     let here = element_here nodes c.args.index present.who c.requires.element c.requires.index in
-    first_out (is_alive h present.who) (is_deferred h present.who) (ap not (sym c.parent_play.ensures.alive) ∙ out)
+    first_out (is_alive h present.who) (is_deferred h present.who) (ap not (sym c.requires.alive) ∙ out)

@@ -8,7 +8,7 @@ use Rattle.smil_element.proofs.ElementReadings.{parent_known}
 use Rattle.smil_element.proofs.IndexedElements.{element_here, makeup_is, own_place, parent_serial, plays_within, syncs_within}
 use Rattle.smil_element.proofs.PresentMoment.{present_fits}
 use Rattle.smil_element.proofs.LatestEntry.{told_now}
-use Rattle.smil_element.proofs.subject.subject_at.Goals as goal
+use Rattle.smil_element.proofs.subject.subject_under.Goals as goal
 
 pub at-played-requires : goal.at-played-requires
 at-played-requires c =
@@ -44,8 +44,8 @@ returns-clause-found c =
       row_is = λ e known. c.at-row.ensures nodes e c.syncs.ensures (c.requires.index ∙ known);
       parent_is = parent;
       parent_known = parent_known nodes who c.serial_in.result c.possible.ensures.valid.numbered.distinct c.requires.element parent;
-      alive_is = c.parent_play-above.ensures.alive;
-      start_is = omega (arith, ints, c.parent_play-above.ensures.start);
+      alive_is = c.requires.alive;
+      start_is = omega (arith, ints, c.requires.start);
       own_is =
           told_now past now fits c.requires.moment (λ (m : ℤ). c.readings_at-clocks.result.own ≡ run h here.node.serial m) (λ late. c.readings_at-clocks.ensures.own h here.node c.clocks.ensures late own)
           ∙ ap (λ s. run h s now) here.serial;
