@@ -1,0 +1,11 @@
+pub mod Lineages
+pub mod Readings
+pub mod ReadingsStay
+pub mod GivenStays
+pub mod ActedStays
+pub mod LoggedStays
+pub mod SimpleSame
+pub mod ConcernedTouched
+pub mod UnconcernedEnds
+pub mod UnconcernedStay
+pub mod EndsLocality

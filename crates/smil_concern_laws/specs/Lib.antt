@@ -1,0 +1,2 @@
+pub mod Concerned
+pub mod Unconcerned
