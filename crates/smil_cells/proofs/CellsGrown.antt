@@ -193,7 +193,7 @@ AreFresh z start flag n x = WhereTold flag (fresh x.document.nodes (current_inte
 
 -- ---- the group has been taken in
 
-module _ (past : MarkedHistory) (m z : ℤ) (steps : List Step) (fault : Option BookFault) (mark : Option ℤ) (touched mid others : List ℕ) (start : ℕ) (here : z ≡ pos (nat_abs m)) (begins : start ≡ length past.diary) where
+module _ (past : MarkedHistory) (m z : ℤ) (steps : List Step) (fault : Option BookFault) (mark : Option ℤ) (touched others : List ℕ) (start : ℕ) (here : z ≡ pos (nat_abs m)) (begins : start ≡ length past.diary) where
   abbrev after : MarkedHistory
   after = with_diary past (past.diary ++ at_moment m steps)
 
@@ -206,8 +206,8 @@ module _ (past : MarkedHistory) (m z : ℤ) (steps : List Step) (fault : Option 
   rest_is : drop start (past.diary ++ at_moment m steps) ≡ at_moment m steps
   rest_is = rw begins (drop-append_seam past.diary (at_moment m steps))
 
-  module _ (numbered : IsNumberedTree past.document) (lens : (l : ℕ × ℕ) → past.marked ≡ Some l → (l.0 ≤ length past.log) × (l.1 ≤ length past.diary)) (step : next_step (course_on past.document.nodes past.log (nat_abs m)) (record { moment = nat_abs m; heard = length past.log; diary = past.diary }) ≡ Some (record { moment = nat_abs m; heard = length past.log; diary = past.diary ++ at_moment m steps })) (grows : length past.diary < length (past.diary ++ at_moment m steps)) (two : (s : ℕ) → has mid s ≡ true → has others s ≡ true) where
-    came : length after.diary ≤ DIARY_ENTRIES → StayListed touched mid after → AreShown start mid after → StayBefore z start others after → Came after
+  module _ (numbered : IsNumberedTree past.document) (lens : (l : ℕ × ℕ) → past.marked ≡ Some l → (l.0 ≤ length past.log) × (l.1 ≤ length past.diary)) (step : next_step (course_on past.document.nodes past.log (nat_abs m)) (record { moment = nat_abs m; heard = length past.log; diary = past.diary }) ≡ Some (record { moment = nat_abs m; heard = length past.log; diary = past.diary ++ at_moment m steps })) (grows : length past.diary < length (past.diary ++ at_moment m steps)) where
+    came : length after.diary ≤ DIARY_ENTRIES → StayListed touched others after → AreShown start others after → StayBefore z start others after → Came after
     came few one shown changed = record {
       presentation_is = refl;
       step = step;
@@ -216,17 +216,17 @@ module _ (past : MarkedHistory) (m z : ℤ) (steps : List Step) (fault : Option 
       few = few;
       sound = refl;
       marked = same_mark past after (with_entries past after (at_moment m steps) refl) lens mark;
-      more = λ e there q. two e.serial (one e there q);
+      more = one;
       views = λ e there free.
           views_stay (past_of.history_of past) (at_moment m steps) (pos (nat_abs m)) e (ordered past.document numbered).first there
           (untouched (any_shows (past_of.history_of after) (at_moment m steps) e.serial) (has others e.serial) free
-          (λ q. two e.serial (shown e there (subst (λ (l : List Entry). any_shows (past_of.history_of after) l e.serial ≡ true) (sym rest_is) q))))
+          (λ q. shown e there (subst (λ (l : List Entry). any_shows (past_of.history_of after) l e.serial ≡ true) (sym rest_is) q)))
           (subst (λ (x : ℤ). current_interval (record { nodes = past.document.nodes; log = past.log; diary = past.diary ++ at_moment m steps }) x e.serial ≡ current_interval (record { nodes = past.document.nodes; log = past.log; diary = past.diary }) x e.serial) here
           (changed e there free ∙ ap (λ (l : List Entry). current_interval (record { nodes = past.document.nodes; log = past.log; diary = l }) z e.serial) front_is));
     }
 
-    pub came_to : (new : MarkedHistory) → new ≡ after → length new.diary ≤ DIARY_ENTRIES → StayListed touched mid new → AreShown start mid new → StayBefore z start others new → Came new
-    came_to new is = subst (λ (x : MarkedHistory). length x.diary ≤ DIARY_ENTRIES → StayListed touched mid x → AreShown start mid x → StayBefore z start others x → Came x) (sym is) came
+    pub came_to : (new : MarkedHistory) → new ≡ after → length new.diary ≤ DIARY_ENTRIES → StayListed touched others new → AreShown start others new → StayBefore z start others new → Came new
+    came_to new is = subst (λ (x : MarkedHistory). length x.diary ≤ DIARY_ENTRIES → StayListed touched others x → AreShown start others x → StayBefore z start others x → Came x) (sym is) came
 
   pub least_fresh : (flag : Bool) (n : ℕ) (new : MarkedHistory) → new ≡ after → AreFresh z start flag n new → WhereTold flag (fresh_since (standing_of past m fault mark touched) (standing_of new m None mark others) ≤ n)
   least_fresh flag n new is =

@@ -173,30 +173,30 @@ module _ (past : MarkedHistory) (m : ℤ) (entry : LogEntry) (fault : Option Boo
           ∙ (ap (λ (v : ℤ). current_interval h' v s) at_now
           ∙ ap (λ (table : List (ℕ × Option Interval)). in_table table s) (same_heard law longer_law).table)
 
-      module _ (mid others : List ℕ) where
+      module _ (others : List ℕ) where
         abbrev Came : MarkedHistory → Type 0
         Came x = IsHeard was entry (standing_of x m None mark others)
 
-        module _ (lens : (l : ℕ × ℕ) → past.marked ≡ Some l → (l.0 ≤ length past.log) × (l.1 ≤ length past.diary)) (step : next_step (course_on past.document.nodes (past.log ++ entry ∷ []) now) (record { moment = now; heard = length past.log; diary = past.diary }) ≡ Some (record { moment = now; heard = length (past.log ++ entry ∷ []); diary = later.diary })) (two : (s : ℕ) → has mid s ≡ true → has others s ≡ true) where
-          came : StayListed touched mid later → AreShown start mid later → StayBefore z start others later → Came later
+        module _ (lens : (l : ℕ × ℕ) → past.marked ≡ Some l → (l.0 ≤ length past.log) × (l.1 ≤ length past.diary)) (step : next_step (course_on past.document.nodes (past.log ++ entry ∷ []) now) (record { moment = now; heard = length past.log; diary = past.diary }) ≡ Some (record { moment = now; heard = length (past.log ++ entry ∷ []); diary = later.diary })) where
+          came : StayListed touched others later → AreShown start others later → StayBefore z start others later → Came later
           came one shown changed = record {
             presentation_is = refl;
             diary_is = refl;
             step = step;
             sound = refl;
             marked = same_mark past later (with_entry past later entry refl) lens mark;
-            more = λ e there q. two e.serial (one e there q);
+            more = one;
             views = λ e there free.
                 views_stay h' (line ∷ []) (pos now) e (ordered past.document state.document.numbered).first there
                 (untouched (any_shows (past_of.history_of later) (line ∷ []) e.serial) (has others e.serial) free
-                (λ q. two e.serial (shown e there (subst (λ (l : List Entry). any_shows (past_of.history_of later) l e.serial ≡ true) (sym rest_is) q))))
+                (λ q. shown e there (subst (λ (l : List Entry). any_shows (past_of.history_of later) l e.serial ≡ true) (sym rest_is) q)))
                 (subst (λ (v : ℤ). current_interval (past_of.history_of later) v e.serial ≡ current_interval h' v e.serial) at_now
                 (changed e there free ∙ ap (λ (d : List Entry). current_interval (record { nodes = past.document.nodes; log = past.log ++ entry ∷ []; diary = d }) z e.serial) front_is))
                 ∙ (same_heard law longer_law).view e;
           }
 
-          pub came_heard : (new : MarkedHistory) → new ≡ later → StayListed touched mid new → AreShown start mid new → StayBefore z start others new → Came new
-          came_heard new is = subst (λ (x : MarkedHistory). StayListed touched mid x → AreShown start mid x → StayBefore z start others x → Came x) (sym is) came
+          pub came_heard : (new : MarkedHistory) → new ≡ later → StayListed touched others new → AreShown start others new → StayBefore z start others new → Came new
+          came_heard new is = subst (λ (x : MarkedHistory). StayListed touched others x → AreShown start others x → StayBefore z start others x → Came x) (sym is) came
 
       -- what differs from what it was before differs from what it was by the longer log
       fresh_same : (a b c : ℕ → Option Interval) → ((s : ℕ) → a s ≡ b s) → (es : List Node) → length (filter (λ (e : Node). is_fresh (a e.serial) (c e.serial)) es) ≡ length (filter (λ (e : Node). is_fresh (b e.serial) (c e.serial)) es)

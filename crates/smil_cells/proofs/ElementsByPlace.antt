@@ -1,17 +1,15 @@
 -- Elements by the places of their nodes.
 use Rattle.std.proofs.Common.{◌≡◌, refl, sym, ◌∙◌, ap, subst, ℕ, zero, suc, ◌+◌, ◌-◌, ◌<◌, ◌≤◌, List, [], ◌∷◌, ◌++◌, Option, Some, None, Bool, true, false, inl, inr, arith, length, take, drop, filter, get_or, eqb-true, eq-eqb}
-use Rattle.std.specs.Prelude.{◌⊎◌, ◌≢◌, ◌||◌, ◌==◌, not, cond, is_some, slice_get, slice_range}
+use Rattle.std.specs.Prelude.{◌⊎◌, ◌≢◌, ◌||◌, ◌==◌, cond, is_some, slice_get, slice_range}
 use Rattle.std.specs.List.{position}
 use Rattle.std.specs.List.Sorted.{IsStrictlyIncreasing}
 use Rattle.std.proofs.lemmas.Bool.{cases_eq, or_cases, or_left, or_right}
 use Rattle.std.proofs.lemmas.List.Kept.{AllPairs-from_increasing}
-use Rattle.std.proofs.lemmas.Option.{same_Some}
 use Rattle.smil_model.specs.declared.document.Node.{Node}
-use Rattle.smil_model.specs.declared.document.Kind.{Kind}
-use Rattle.smil_model.specs.document.Document.{elements, is_element, is_class_kind, node_at, serial_of, serials}
+use Rattle.smil_model.specs.document.Document.{elements, is_element, node_at, serials}
 use Rattle.smil_model.specs.document.Closure.{has}
 use Rattle.smil_model.specs.document.Edits.{place_in}
-use Rattle.smil_model.specs.document.Valid.{IsDistinct, IsNumberedTree, kind_of}
+use Rattle.smil_model.specs.document.Valid.{IsDistinct, IsNumberedTree}
 use Rattle.smil_laws.proofs.ClosureExact.{has_filter}
 use Rattle.smil_laws.proofs.Lists.{each_at}
 use Rattle.smil_laws.proofs.ListMembers.{differ_each}
@@ -260,36 +258,6 @@ none_stand nodes places e = ap (elements_at nodes) e ∙ none (serials (elements
     none : (xs : List ℕ) → filter (λ (x : ℕ). false) xs ≡ []
     none [] = refl
     none (x ∷ xs) = none xs
-
--- ---- the node at a place
-
-pub record IsNodeAt (nodes : List Node) (place s : ℕ) : Type 0 where
-  pub node : Node
-  pub at : slice_get nodes place ≡ Some node
-  pub serial : node.serial ≡ s
-  pub known : node_at nodes s ≡ Some node
-
-pub node_at_place : (nodes : List Node) (place s : ℕ) → IsDistinct nodes → serial_of (slice_get nodes place) ≡ Some s → IsNodeAt nodes place s
-node_at_place nodes place s distinct q = by_node (slice_get nodes place) refl q
-  where
-    by_node : (o : Option Node) → slice_get nodes place ≡ o → serial_of o ≡ Some s → IsNodeAt nodes place s
-    by_node None e r = cc
-    by_node (Some n) e r =
-        let same = same_Some n.serial s r in
-        record { node = n; at = e; serial = same; known = subst (λ (k : ℕ). node_at nodes k ≡ Some n) same (node_of nodes place n distinct e) }
-
--- what stands at the place, by its kind
-pub pushed_is : (nodes : List Node) (place s : ℕ) → IsNodeAt nodes place s → (kind : Kind) (b : Bool) → Some kind ≡ kind_of (node_at nodes s) → b ≡ not (is_class_kind kind) → serials (elements (nodes_of (slice_get nodes place))) ≡ cond b (s ∷ []) []
-pushed_is nodes place s found kind b of_kind is =
-    let kinds : kind ≡ found.node.kind = same_Some kind found.node.kind (of_kind ∙ ap kind_of found.known) in
-    let own : is_element found.node ≡ b = ap (λ (k : Kind). not (is_class_kind k)) (sym kinds) ∙ sym is in
-    ap (λ (o : Option Node). serials (elements (nodes_of o))) found.at
-    ∙ (ap (λ (c : Bool). serials (cond c (found.node ∷ []) [])) own
-    ∙ by_test b)
-  where
-    by_test : (c : Bool) → serials (cond c (found.node ∷ []) []) ≡ cond c (s ∷ []) []
-    by_test true = ap (λ (k : ℕ). k ∷ []) found.serial
-    by_test false = refl
 
 -- ---- listed nodes one after another
 

@@ -1,6 +1,6 @@
 -- The elements in whose views a step shows, among those at the places that are put in.
-use Rattle.std.proofs.Common.{◌≡◌, refl, sym, ◌∙◌, ap, subst, ℕ, zero, suc, ◌+◌, ◌-◌, ◌≤◌, List, [], ◌∷◌, Option, Some, None, Bool, true, false, inl, inr, arith, length, take, drop, filter, reverse, eqb-true}
-use Rattle.std.specs.Prelude.{◌⊎◌, ◌&&◌, ◌||◌, ◌==◌, cond, find, is_some, slice_get}
+use Rattle.std.proofs.Common.{◌≡◌, refl, sym, ◌∙◌, ap, subst, ℕ, ◌-◌, List, [], ◌∷◌, Option, Some, None, Bool, true, false, length, take, drop, filter, reverse, eqb-true}
+use Rattle.std.specs.Prelude.{◌||◌, ◌==◌, cond, find, is_some}
 use Rattle.std.specs.List.{list_any, position}
 use Rattle.std.proofs.lemmas.Option.{same_Some}
 use Rattle.std.proofs.lemmas.List.Sorted.{list_any-IsPermutation, IsPermutation-reverse}
@@ -8,17 +8,15 @@ use Rattle.smil_model.specs.declared.diary.Entry.{Entry}
 use Rattle.smil_model.specs.declared.diary.Step.{Step}
 use Rattle.smil_model.specs.declared.document.Kind.{Kind}
 use Rattle.smil_model.specs.declared.document.Node.{Node}
-use Rattle.smil_model.specs.document.Document.{elements, is_element, is_excl_kind, is_seq_kind, is_within, node_at, serial_of, serials, time_children, time_parent, upwards}
+use Rattle.smil_model.specs.document.Document.{elements, is_element, is_excl_kind, is_seq_kind, is_within, node_at, serial_of, serials, time_parent, upwards}
 use Rattle.smil_model.specs.document.Closure.{has}
 use Rattle.smil_model.specs.document.Valid.{kind_of}
 use Rattle.smil_model.specs.diary.Diary.{History}
-use Rattle.smil_model.specs.reach.Reach.{subject_of}
 use Rattle.smil_laws.specs.Seen.{starts}
 use Rattle.smil_past.proofs.KnownNodes.{known_place}
 use Rattle.smil_past.proofs.TimeParents.{IsUp}
-use Rattle.smil_cells.specs.Shown.{AreWithinPut, StayIn, any_rests, any_shows, displaced_in, elements_at, may_rest, rests_under, sequenced, shows_from, shows_in}
-use Rattle.smil_cells.proofs.ElementsByPlace.{still_stands}
-use Rattle.std.proofs.lemmas.Bool.{and_parts, or_cases, or_left, or_parts, or_right}
+use Rattle.smil_cells.specs.Shown.{displaced_in, rests_under, sequenced, shows_in}
+use Rattle.std.proofs.lemmas.Bool.{or_left, or_parts, or_right}
 use Rattle.smil_instances.proofs.IdTargets.{known_node}
 
 or_none : (a b : Bool) → a ≡ false → b ≡ false → a || b ≡ false
@@ -133,125 +131,7 @@ none_displaced nodes step who q = by_start (starts step) (by_parent (time_parent
 abbrev pub entries_from : List Entry → ℕ → List Entry
 entries_from entries from = take (length entries - from) (drop from entries)
 
-pub shows_first : (h : History) (diary : List Entry) (place s : ℕ) (x : Entry) → slice_get diary place ≡ Some x → any_shows h (drop place diary) s ≡ true
-    → (shows_from h x.step (subject_of h.log x.step) s ≡ true) ⊎ (any_shows h (drop (place + 1) diary) s ≡ true)
-shows_first h [] place s x here q = cc
-shows_first h (y ∷ ys) zero s x here q =
-    let same : y ≡ x = cc in
-    subst (λ (z : Entry). (shows_from h z.step (subject_of h.log z.step) s ≡ true) ⊎ (any_shows h (drop 1 (y ∷ ys)) s ≡ true)) same
-    (or_cases (shows_from h y.step (subject_of h.log y.step) s) (any_shows h (drop 0 ys) s) (whole ys q))
-  where
-    whole : (zs : List Entry) → any_shows h (y ∷ zs) s ≡ true → shows_from h y.step (subject_of h.log y.step) s || any_shows h (drop 0 zs) s ≡ true
-    whole [] p = p
-    whole (z ∷ zs) p = p
-shows_first h (y ∷ ys) (suc place) s x here q =
-    subst (λ (k : ℕ). (shows_from h x.step (subject_of h.log x.step) s ≡ true) ⊎ (any_shows h (drop k (y ∷ ys)) s ≡ true)) (next place)
-    (shows_first h ys place s x here q)
-  where
-    next : (n : ℕ) → suc (n + 1) ≡ suc n + 1
-    next n = omega arith
-
-pub none_shows : (h : History) (diary : List Entry) (place s : ℕ) → length diary ≤ place → any_shows h (drop place diary) s ≡ false
-none_shows h [] zero s l = refl
-none_shows h [] (suc place) s l = refl
-none_shows h (y ∷ ys) zero s l = absurd (omega (arith, l))
-none_shows h (y ∷ ys) (suc place) s l = none_shows h ys place s (omega (arith, l))
-
--- one entry more was touched
-pub more_shown : (h : History) (diary : List Entry) (place : ℕ) (x : Entry) (before after : List ℕ) (e : Node) → slice_get diary place ≡ Some x → StayIn before after
-    → ((n : Node) → node_at (elements h.nodes) n.serial ≡ Some n → shows_from h x.step (subject_of h.log x.step) n.serial ≡ true → has (elements_at h.nodes after) n.serial ≡ true)
-    → node_at (elements h.nodes) e.serial ≡ Some e
-    → (has (elements_at h.nodes before) e.serial ≡ true) ⊎ (any_shows h (drop place diary) e.serial ≡ true)
-    → (has (elements_at h.nodes after) e.serial ≡ true) ⊎ (any_shows h (drop (place + 1) diary) e.serial ≡ true)
-more_shown h diary place x before after e at more shown here (inl p) = inl (still_stands h.nodes before after more e.serial p)
-more_shown h diary place x before after e at more shown here (inr q) = by_first (shows_first h diary place e.serial x at q)
-  where
-    by_first : (shows_from h x.step (subject_of h.log x.step) e.serial ≡ true) ⊎ (any_shows h (drop (place + 1) diary) e.serial ≡ true) → (has (elements_at h.nodes after) e.serial ≡ true) ⊎ (any_shows h (drop (place + 1) diary) e.serial ≡ true)
-    by_first (inl r) = inl (shown e here r)
-    by_first (inr r) = inr r
-
-pub all_shown : (h : History) (diary : List Entry) (place s : ℕ) (touched : List ℕ) → length diary ≤ place → (has touched s ≡ true) ⊎ (any_shows h (drop place diary) s ≡ true) → has touched s ≡ true
-all_shown h diary place s touched l (inl p) = p
-all_shown h diary place s touched l (inr q) = let never : false ≡ true = sym (none_shows h diary place s l) ∙ q in cc
-
--- ---- the children that may rest, one after another
-
--- an element within a child that may rest is put in, or such a child is left
-abbrev pub ArePutUpTo : History → List Node → ℕ → List ℕ → Type 0
-ArePutUpTo h children place places =
-    (e : Node) → node_at (elements h.nodes) e.serial ≡ Some e → any_rests h children e.serial ≡ true
-    → (has (elements_at h.nodes places) e.serial ≡ true) ⊎ (any_rests h (drop place children) e.serial ≡ true)
-
-rests_first : (h : History) (children : List Node) (place s : ℕ) (n : Node) → slice_get children place ≡ Some n → any_rests h (drop place children) s ≡ true
-    → ((may_rest h n && is_within h.nodes n.serial s) ≡ true) ⊎ (any_rests h (drop (place + 1) children) s ≡ true)
-rests_first h [] place s n here q = cc
-rests_first h (m ∷ ms) zero s n here q =
-    let same : m ≡ n = cc in
-    subst (λ (z : Node). ((may_rest h z && is_within h.nodes z.serial s) ≡ true) ⊎ (any_rests h (drop 1 (m ∷ ms)) s ≡ true)) same
-    (or_cases (may_rest h m && is_within h.nodes m.serial s) (any_rests h (drop 0 ms) s) (whole ms q))
-  where
-    whole : (zs : List Node) → any_rests h (m ∷ zs) s ≡ true → (may_rest h m && is_within h.nodes m.serial s) || any_rests h (drop 0 zs) s ≡ true
-    whole [] p = p
-    whole (z ∷ zs) p = p
-rests_first h (m ∷ ms) (suc place) s n here q =
-    subst (λ (k : ℕ). ((may_rest h n && is_within h.nodes n.serial s) ≡ true) ⊎ (any_rests h (drop k (m ∷ ms)) s ≡ true)) (next place)
-    (rests_first h ms place s n here q)
-  where
-    next : (k : ℕ) → suc (k + 1) ≡ suc k + 1
-    next k = omega arith
-
-none_rests : (h : History) (children : List Node) (place s : ℕ) → length children ≤ place → any_rests h (drop place children) s ≡ false
-none_rests h [] zero s l = refl
-none_rests h [] (suc place) s l = refl
-none_rests h (m ∷ ms) zero s l = absurd (omega (arith, l))
-none_rests h (m ∷ ms) (suc place) s l = none_rests h ms place s (omega (arith, l))
-
-pub more_put : (h : History) (children : List Node) (place : ℕ) (n : Node) (before after : List ℕ) → slice_get children place ≡ Some n → StayIn before after
-    → (may_rest h n ≡ true → AreWithinPut h.nodes n.serial after) → ArePutUpTo h children place before → ArePutUpTo h children (place + 1) after
-more_put h children place n before after at more within so_far e here q = by_case (so_far e here q)
-  where
-    by_first : ((may_rest h n && is_within h.nodes n.serial e.serial) ≡ true) ⊎ (any_rests h (drop (place + 1) children) e.serial ≡ true) → (has (elements_at h.nodes after) e.serial ≡ true) ⊎ (any_rests h (drop (place + 1) children) e.serial ≡ true)
-    by_first (inl r) = let parts = and_parts (may_rest h n) (is_within h.nodes n.serial e.serial) r in inl (within parts.0 e here parts.1)
-    by_first (inr r) = inr r
-
-    by_case : (has (elements_at h.nodes before) e.serial ≡ true) ⊎ (any_rests h (drop place children) e.serial ≡ true) → (has (elements_at h.nodes after) e.serial ≡ true) ⊎ (any_rests h (drop (place + 1) children) e.serial ≡ true)
-    by_case (inl p) = inl (still_stands h.nodes before after more e.serial p)
-    by_case (inr r) = by_first (rests_first h children place e.serial n at r)
-
-pub all_put : (h : History) (children : List Node) (place : ℕ) (places : List ℕ) → length children ≤ place → ArePutUpTo h children place places
-    → (e : Node) → node_at (elements h.nodes) e.serial ≡ Some e → any_rests h children e.serial ≡ true → has (elements_at h.nodes places) e.serial ≡ true
-all_put h children place places l done e here q = by_case (done e here q)
-  where
-    by_case : (has (elements_at h.nodes places) e.serial ≡ true) ⊎ (any_rests h (drop place children) e.serial ≡ true) → has (elements_at h.nodes places) e.serial ≡ true
-    by_case (inl p) = p
-    by_case (inr r) = let never : false ≡ true = sym (none_rests h children place e.serial l) ∙ r in cc
-
--- ---- an element and the children that it displaces
-
-pub shown_alone : (h : History) (step : Step) (x : ℕ) (places : List ℕ) → AreWithinPut h.nodes x places → None ≡ serial_of (displaced_in h.nodes step x)
-    → (e : Node) → node_at (elements h.nodes) e.serial ≡ Some e → shows_in h step x e.serial ≡ true → has (elements_at h.nodes places) e.serial ≡ true
-shown_alone h step x places within none e here q = by_case (or_cases (is_within h.nodes x e.serial) (rests_under h (displaced_in h.nodes step x) e.serial) q)
-  where
-    no_parent : (o : Option Node) → None ≡ serial_of o → rests_under h o e.serial ≡ true → false ≡ true
-    no_parent None is r = r
-    no_parent (Some p) is r = cc
-
-    by_case : (is_within h.nodes x e.serial ≡ true) ⊎ (rests_under h (displaced_in h.nodes step x) e.serial ≡ true) → has (elements_at h.nodes places) e.serial ≡ true
-    by_case (inl p) = within e here p
-    by_case (inr p) = let never : false ≡ true = no_parent (displaced_in h.nodes step x) none p in cc
-
-pub shown_beside : (h : History) (step : Step) (x parent : ℕ) (mid new : List ℕ) → AreWithinPut h.nodes x mid → Some parent ≡ serial_of (displaced_in h.nodes step x) → StayIn mid new
-    → ((e : Node) → node_at (elements h.nodes) e.serial ≡ Some e → any_rests h (time_children h.nodes parent) e.serial ≡ true → has (elements_at h.nodes new) e.serial ≡ true)
-    → (e : Node) → node_at (elements h.nodes) e.serial ≡ Some e → shows_in h step x e.serial ≡ true → has (elements_at h.nodes new) e.serial ≡ true
-shown_beside h step x parent mid new within some more beside e here q = by_case (or_cases (is_within h.nodes x e.serial) (rests_under h (displaced_in h.nodes step x) e.serial) q)
-  where
-    of_parent : (o : Option Node) → Some parent ≡ serial_of o → rests_under h o e.serial ≡ true → any_rests h (time_children h.nodes parent) e.serial ≡ true
-    of_parent None is r = cc
-    of_parent (Some p) is r = subst (λ (k : ℕ). any_rests h (time_children h.nodes k) e.serial ≡ true) (sym (same_Some parent p.serial is)) r
-
-    by_case : (is_within h.nodes x e.serial ≡ true) ⊎ (rests_under h (displaced_in h.nodes step x) e.serial ≡ true) → has (elements_at h.nodes new) e.serial ≡ true
-    by_case (inl p) = still_stands h.nodes mid new more e.serial (within e here p)
-    by_case (inr p) = beside e here (of_parent (displaced_in h.nodes step x) some p)
+-- ---- a serial without a place
 
 pub no_place : (nodes : List Node) (x : ℕ) → is_some (position (λ (n : Node). n.serial == x) nodes) ≡ false → is_some (node_at nodes x) ≡ false
 no_place nodes x q = by_test (is_some (node_at nodes x)) refl

@@ -1,29 +1,27 @@
 -- Only elements whose views entries may change are put in.
 use Rattle.std.proofs.Common.{◌≡◌, refl, sym, ◌∙◌, ap, subst, ℕ, zero, suc, ◌+◌, ◌-◌, ◌<◌, ◌≤◌, List, [], ◌∷◌, ◌++◌, Option, Some, None, ℤ, Bool, true, false, inl, inr, arith, length, take, drop, filter, get_or, eq-eqb, eqb-true}
 use Rattle.std.proofs.Math.Seq.{take-append_seam}
-use Rattle.std.specs.Prelude.{◌⊎◌, ◌&&◌, ◌||◌, ◌==◌, cond, is_some, pos, nat_abs, slice_get, slice_range}
+use Rattle.std.specs.Prelude.{◌⊎◌, ◌||◌, ◌==◌, cond, is_some, pos, nat_abs, slice_get, slice_range}
 use Rattle.std.specs.List.{position}
 use Rattle.std.proofs.lemmas.Bool.{or_cases, or_left, or_right}
 use Rattle.std.proofs.lemmas.Option.{same_Some}
 use Rattle.smil_model.specs.declared.diary.Entry.{Entry}
-use Rattle.smil_model.specs.declared.diary.Step.{Step}
 use Rattle.smil_model.specs.declared.document.Node.{Node}
-use Rattle.smil_model.specs.document.Document.{Document, elements, is_within, node_at, serial_of, serials, time_children}
+use Rattle.smil_model.specs.document.Document.{Document, elements, is_within, node_at, serials}
 use Rattle.smil_model.specs.document.Closure.{has}
 use Rattle.smil_model.specs.document.Edits.{place_in}
 use Rattle.smil_model.specs.document.Valid.{IsNumberedTree}
-use Rattle.smil_model.specs.diary.Diary.{History}
 use Rattle.smil_model.specs.interval.Current.{current_interval}
-use Rattle.smil_model.specs.reach.Reach.{subject_of}
 use Rattle.smil_laws.proofs.DependencyRanks.{filter_has}
 use Rattle.smil_laws.proofs.RoundsRest.{find-serial}
 use Rattle.smil_tree.proofs.ChildSpans.{node_of_place, place_told}
 use Rattle.smil_instances.proofs.IdTargets.{known_node}
 use Rattle.smil_diary.specs.declared.fault.BookFault.{BookFault}
-use Rattle.smil_past.specs.Past.{MarkedHistory, front, history_of}
+use Rattle.smil_past.specs.Past.{MarkedHistory, history_of}
 use Rattle.smil_past.proofs.KnownNodes.{known_at_place}
 use Rattle.smil_cells.specs.Evaluated.{AreChanged}
-use Rattle.smil_cells.specs.Shown.{OnlyMore, TouchesOnly, any_rests, any_shows, displaced_in, elements_at, may_rest, rests_under, shows_from, shows_in, touched_at}
+use Rattle.smil_cells.specs.NewEntries.{ArePutBehind, MayDiffer, interval_before, interval_behind}
+use Rattle.smil_cells.specs.Shown.{OnlyMore, TouchesOnly, any_shows, elements_at, touched_at}
 use Rattle.smil_cells.specs.Standings.{standing_of}
 use Rattle.smil_cells.proofs.ElementsByPlace.{stands_there}
 
@@ -38,13 +36,6 @@ only_then nodes old mid new p q first second implies e here on = by_second (seco
     by_second : (has (elements_at nodes mid) e.serial ≡ true) ⊎ (q e.serial ≡ true) → (has (elements_at nodes old) e.serial ≡ true) ⊎ (p e.serial ≡ true)
     by_second (inl was) = first e here was
     by_second (inr passes) = inr (implies e.serial passes)
-
-pub only_weaker : (nodes : List Node) (old new : List ℕ) (p q : ℕ → Bool) → OnlyMore nodes old new p → ((s : ℕ) → p s ≡ true → q s ≡ true) → OnlyMore nodes old new q
-only_weaker nodes old new p q only implies e here on = by_case (only e here on)
-  where
-    by_case : (has (elements_at nodes old) e.serial ≡ true) ⊎ (p e.serial ≡ true) → (has (elements_at nodes old) e.serial ≡ true) ⊎ (q e.serial ≡ true)
-    by_case (inl was) = inl was
-    by_case (inr passes) = inr (implies e.serial passes)
 
 -- ---- places
 
@@ -151,57 +142,50 @@ module _ (nodes : List Node) (next : ℕ) (numbered : IsNumberedTree (record { n
           inr (ap (is_within nodes who) (sym (find-serial e.serial nodes n.node n.known))
           ∙ passes_at (λ (x : Node). is_within nodes who x.serial) nodes (place_in nodes e.serial - a) n.node (ap (λ (l : List Node). slice_get l (place_in nodes e.serial - a)) (sym is) ∙ at))
 
--- ---- what shows
-
-pub rests_at : (h : History) (children : List Node) (k s : ℕ) (n : Node) → slice_get children k ≡ Some n → (may_rest h n && is_within h.nodes n.serial s) ≡ true → any_rests h children s ≡ true
-rests_at h [] k s n at q = cc
-rests_at h (m ∷ ms) zero s n at q = let one : m ≡ n = cc in or_left _ _ (ap (λ (x : Node). may_rest h x && is_within h.nodes x.serial s) one ∙ q)
-rests_at h (m ∷ ms) (suc k) s n at q = or_right _ _ (rests_at h ms k s n at q)
-
-pub rests_of : (h : History) (o : Option Node) (parent s : ℕ) → Some parent ≡ serial_of o → any_rests h (time_children h.nodes parent) s ≡ true → rests_under h o s ≡ true
-rests_of h None parent s is q = cc
-rests_of h (Some p) parent s is q = ap (λ (k : ℕ). any_rests h (time_children h.nodes k) s) (sym (same_Some parent p.serial is)) ∙ q
-
-pub shows_at : (h : History) (entries : List Entry) (k s : ℕ) (y : Entry) → slice_get entries k ≡ Some y → shows_from h y.step (subject_of h.log y.step) s ≡ true → any_shows h entries s ≡ true
-shows_at h [] k s y at q = cc
-shows_at h (x ∷ xs) zero s y at q = let one : x ≡ y = cc in or_left _ _ (ap (λ (z : Entry). shows_from h z.step (subject_of h.log z.step) s) one ∙ q)
-shows_at h (x ∷ xs) (suc k) s y at q = or_right _ _ (shows_at h xs k s y at q)
-
-pub within_shows : (h : History) (step : Step) (x s : ℕ) → is_within h.nodes x s ≡ true → shows_in h step x s ≡ true
-within_shows h step x s q = or_left _ _ q
-
-pub resting_shows : (h : History) (step : Step) (x parent s : ℕ) → Some parent ≡ serial_of (displaced_in h.nodes step x) → any_rests h (time_children h.nodes parent) s ≡ true → shows_in h step x s ≡ true
-resting_shows h step x parent s is q = or_right _ _ (rests_of h (displaced_in h.nodes step x) parent s is q)
-
 -- ---- entries that were taken in
 
 pub front_of : (diary more new : List Entry) (start : ℕ) → new ≡ diary ++ more → start ≡ length diary → take start new ≡ diary
 front_of diary more new start grown begins = ap (λ (n : ℕ). take n new) begins ∙ ap (take (length diary)) grown ∙ take-append_seam diary more
 
+-- what a refresh of a table puts in
+pub puts_only : (past : MarkedHistory) (from : ℕ) (moment : ℤ) (old mid new told changed : List ℕ) (tree : Document) → tree ≡ past.document → told ≡ []
+    → OnlyMore past.document.nodes old mid (any_shows (history_of past) (drop from past.diary))
+    → OnlyMore tree.nodes mid new (has changed)
+    → AreChanged told changed (interval_before past from moment) (interval_behind past moment)
+    → (e : Node) → node_at (elements past.document.nodes) e.serial ≡ Some e → has (elements_at past.document.nodes new) e.serial ≡ true
+    → (has (elements_at past.document.nodes old) e.serial ≡ true) ⊎ MayDiffer past from moment e.serial
+puts_only past from moment old mid new told changed tree is none shown put tells e here on =
+    by_put (subst (λ (d : Document). OnlyMore d.nodes mid new (has changed)) is put e here on)
+  where
+    by_told : (has told e.serial ≡ true) ⊎ (interval_behind past moment e.serial ≡ interval_before past from moment e.serial → ⊥) → MayDiffer past from moment e.serial
+    by_told (inl was) = let never : false ≡ true = sym (ap (λ (l : List ℕ). has l e.serial) none) ∙ was in absurd (cc)
+    by_told (inr differs) = inr differs
+
+    by_shown : (has (elements_at past.document.nodes old) e.serial ≡ true) ⊎ (any_shows (history_of past) (drop from past.diary) e.serial ≡ true) → (has (elements_at past.document.nodes old) e.serial ≡ true) ⊎ MayDiffer past from moment e.serial
+    by_shown (inl was) = inl was
+    by_shown (inr shows) = inr (inl shows)
+
+    by_put : (has (elements_at past.document.nodes mid) e.serial ≡ true) ⊎ (has changed e.serial ≡ true) → (has (elements_at past.document.nodes old) e.serial ≡ true) ⊎ MayDiffer past from moment e.serial
+    by_put (inl was) = by_shown (shown e here was)
+    by_put (inr is_told) = inr (by_told (tells e.serial is_told))
+
+-- by the cells before and behind
 module _ (past new : MarkedHistory) (m z : ℤ) (fault : Option BookFault) (mark : Option ℤ) (touched : List ℕ) (start : ℕ) (doc : new.document ≡ past.document) (begins : start ≡ length past.diary) (before : take start new.diary ≡ past.diary) (here : z ≡ pos (nat_abs m)) where
   abbrev Told : ℕ → Type 0
   Told s =
       (any_shows (history_of new) (drop (length past.diary) new.diary) s ≡ true)
       ⊎ (current_interval (history_of new) (pos (nat_abs m)) s ≡ current_interval (record { nodes = new.document.nodes; log = new.log; diary = past.diary }) (pos (nat_abs m)) s → ⊥)
 
-  by_told : (told : List ℕ) (s : ℕ) → told ≡ [] → (has told s ≡ true) ⊎ (current_interval (history_of new) z s ≡ current_interval (front new start) z s → ⊥) → Told s
-  by_told told s none (inl was) = let never : false ≡ true = sym (ap (λ (l : List ℕ). has l s) none) ∙ was in absurd (cc)
-  by_told told s none (inr differs) =
+  by_told : (s : ℕ) → MayDiffer new start z s → Told s
+  by_told s (inl shows) = inl (subst (λ (k : ℕ). any_shows (history_of new) (drop k new.diary) s ≡ true) begins shows)
+  by_told s (inr differs) =
       inr (subst (λ (v : ℤ). current_interval (history_of new) v s ≡ current_interval (record { nodes = new.document.nodes; log = new.log; diary = past.diary }) v s → ⊥) here
       (subst (λ (d : List Entry). current_interval (history_of new) z s ≡ current_interval (record { nodes = new.document.nodes; log = new.log; diary = d }) z s → ⊥) before differs))
 
-  by_shown : (places : List ℕ) (s : ℕ) → (has (elements_at new.document.nodes places) s ≡ true) ⊎ (any_shows (history_of new) (drop start new.diary) s ≡ true) → (has (elements_at past.document.nodes places) s ≡ true) ⊎ Told s
-  by_shown places s (inl was) = inl (subst (λ (d : Document). has (elements_at d.nodes places) s ≡ true) doc was)
-  by_shown places s (inr shows) = inr (inl (subst (λ (k : ℕ). any_shows (history_of new) (drop k new.diary) s ≡ true) begins shows))
-
-  pub touches_only : (places mid after told changed others : List ℕ) (tree : Document) → tree ≡ new.document → told ≡ []
-      → OnlyMore new.document.nodes places mid (any_shows (history_of new) (drop start new.diary))
-      → OnlyMore tree.nodes mid after (has changed)
-      → AreChanged told changed (current_interval (front new start) z) (current_interval (history_of new) z)
+  pub touches_only : (places after others : List ℕ) → ArePutBehind new start z places after
       → TouchesOnly (touched_at (standing_of past m fault mark touched) places) (touched_at (standing_of new m None mark others) after)
-  touches_only places mid after told changed others tree is none shown put tells e there_e on =
-      by_put (subst (λ (d : Document). OnlyMore d.nodes mid after (has changed)) is put e there_e on)
+  touches_only places after others put e there_e on = by_put (put.only e there_e on)
     where
-      by_put : (has (elements_at new.document.nodes mid) e.serial ≡ true) ⊎ (has changed e.serial ≡ true) → (has (elements_at past.document.nodes places) e.serial ≡ true) ⊎ Told e.serial
-      by_put (inl was) = by_shown places e.serial (shown e there_e was)
-      by_put (inr told_s) = inr (by_told told e.serial none (tells e.serial told_s))
+      by_put : (has (elements_at new.document.nodes places) e.serial ≡ true) ⊎ MayDiffer new start z e.serial → (has (elements_at past.document.nodes places) e.serial ≡ true) ⊎ Told e.serial
+      by_put (inl was) = inl (subst (λ (d : Document). has (elements_at d.nodes places) e.serial ≡ true) doc was)
+      by_put (inr told) = inr (by_told e.serial told)

@@ -1,12 +1,13 @@
 -- A refusal of a full diary: the course has none.
-use Rattle.std.proofs.Common.{◌≡◌, List, Option, Some, None, inr}
-use Rattle.std.specs.Prelude.{◌⊎◌, Result, Ok, Err, IfErr, IsErrAnd, OnOk}
+use Rattle.std.proofs.Common.{◌≡◌, ◌∙◌, sym, subst, List, Option, Some, None, inr}
+use Rattle.std.specs.Prelude.{◌⊎◌, Result, Ok, Err, IfErr, IsErrAnd}
 use Rattle.smil_model.specs.declared.diary.Entry.{Entry}
 use Rattle.smil_model.specs.happening.Resolution.{Course, diary_of}
 use Rattle.smil_diary.specs.declared.fault.BookFault.{BookFault}
-use Rattle.smil_diary.specs.declared.fault.BookFault.TheVariants.{DiaryFull}
+use Rattle.smil_diary.specs.declared.fault.BookFault.TheVariants.{DiaryFull, Memory}
 use Rattle.smil_laws.specs.Courses.{TooLongIsFull}
-use Rattle.smil_cells.specs.CellsState.{IsFront}
+use Rattle.smil_cells.specs.CellsState.{CellsState, IsFront, IsRefusing}
+use Rattle.smil_cells.specs.Settling.{HasRefused}
 
 module _ (c : Course) (d : List Entry) where
   abbrev Front : BookFault → Type 0
@@ -20,12 +21,13 @@ module _ (c : Course) (d : List Entry) where
   front_is_there before (Ok x) q = q
   front_is_there before (Err f) q = λ e. inr (q e)
 
--- a refusal that is of these
-pub refused_by : {A : Type 0} (r : Result A BookFault) (P Q : BookFault → Type 0) → ((f : BookFault) → P f → Q f) → IsErrAnd r P → IfErr r Q
-refused_by (Ok x) P Q f e = tt
-refused_by (Err x) P Q f e = f x e
-
--- what follows where there is a result
-pub where_three : {A : Type 0} (r : Result A BookFault) (P Q R S : Type 0) → (P → Q → R → S) → OnOk r P → OnOk r Q → OnOk r R → OnOk r S
-where_three (Ok x) P Q R S f p q s = f p q s
-where_three (Err e) P Q R S f p q s = tt
+-- a refusal for want of memory
+pub for_memory : {A : Type 0} (r : Result A BookFault) (c : Course) (old new : CellsState) → ((f : BookFault) → IsRefusing old (record new { fault = Some f }) f) → IsErrAnd r (λ f. f ≡ Memory) → IfErr r (HasRefused c old (record new { fault = Some Memory }))
+for_memory (Ok x) c old new refusing is = tt
+for_memory (Err x) c old new refusing is = record {
+  refusing = subst (λ (f : BookFault). IsRefusing old (record new { fault = Some Memory }) f) (sym is) (refusing Memory);
+  full = λ e. absurd (not_full (sym is ∙ e));
+}
+  where
+    not_full : Memory ≡ DiaryFull → ⊥
+    not_full e = cc

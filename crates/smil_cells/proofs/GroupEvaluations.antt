@@ -10,10 +10,11 @@ use Rattle.smil_model.specs.document.Closure.{has}
 use Rattle.smil_model.specs.interval.Current.{current_interval}
 use Rattle.smil_model.specs.happening.Resolution.{Progress, next_step}
 use Rattle.smil_model.specs.shown.Orders.{Presentation}
+use Rattle.smil_model.specs.reach.Bounds.{reaches}
 use Rattle.smil_laws.specs.Agreement.{course_on}
 use Rattle.smil_diary.specs.declared.fault.BookFault.{BookFault}
 use Rattle.smil_past.specs.Past.{MarkedHistory, front, history_of, logged_entry}
-use Rattle.smil_cells.specs.CellsState.{CellsState, IsHeard, IsNext, IsOnWay, IsPassed, WhereTold, progress_of}
+use Rattle.smil_cells.specs.CellsState.{CellsState, IsHeard, IsNext, IsOnWay, IsPassed, WhereTold, progress_of, reached_since}
 use Rattle.smil_cells.specs.Evaluated.{AreEvaluatedOnce, AreGroups, Group, HasEvaluated, HasEvaluatedBehind, HasEvaluatedSince, IsGroup, intervals_by}
 use Rattle.smil_cells.specs.Shown.{IsAppended, MayChange, MayHaveChanged, OnlyChanged, TouchesOnly, TouchesOnlySince, elements_at, touched_at}
 use Rattle.smil_cells.proofs.ElementsByPlace.{none_stand}
@@ -21,6 +22,14 @@ use Rattle.smil_cells.specs.Standings.{standing_of}
 use Rattle.smil_cells.proofs.SettlingSteps.{IsRest, joined}
 
 -- ---- one group
+
+pub most_behind : (past new : MarkedHistory) (m : ℤ) (fault : Option BookFault) (mark : Option ℤ) (touched others : List ℕ) (start n : ℕ) → start ≡ length past.diary → new.document ≡ past.document → (flag : Bool)
+    → WhereTold flag (n ≤ reaches new.document.nodes new.log (drop start new.diary))
+    → WhereTold flag (n ≤ reached_since (standing_of past m fault mark touched) (standing_of new m None mark others))
+most_behind past new m fault mark touched others start n begins document false told = tt
+most_behind past new m fault mark touched others start n begins document true told =
+    subst (λ (d : Document). n ≤ reaches d.nodes new.log (drop (length past.diary) new.diary)) document
+    (subst (λ (k : ℕ). n ≤ reaches new.document.nodes new.log (drop k new.diary)) begins told)
 
 module _ (past new : MarkedHistory) (m z : ℤ) (fault : Option BookFault) (mark : Option ℤ) (touched others : List ℕ) (start n : ℕ) (begins : start ≡ length past.diary) (before : take start new.diary ≡ past.diary) (here : z ≡ pos (nat_abs m)) where
   pub evaluated_behind : (flag : Bool)

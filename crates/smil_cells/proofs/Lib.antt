@@ -15,5 +15,6 @@ pub mod LastEntryApart
 pub mod ElementsByPlace
 pub mod FirstCells
 pub mod GroupEvaluations
+pub mod ElementsPut
 pub mod ElementsTouched
 pub mod DistinctElements

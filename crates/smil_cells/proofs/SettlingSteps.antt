@@ -1,7 +1,7 @@
 -- Settling goes on its way: time that passes, a group that is appended, and what has come to rest.
 use Rattle.std.proofs.Common.{◌≡◌, refl, sym, ◌∙◌, ap, subst, ℕ, suc, ◌+◌, ◌-◌, ◌<◌, ◌≤◌, List, [], ◌∷◌, ◌++◌, Option, Some, None, ℤ, Bool, true, false, arith, length, drop, filter, append_assoc, append-nil}
 use Rattle.std.proofs.Math.Seq.{drop-append_seam}
-use Rattle.std.specs.Prelude.{pos, negsuc, nat_abs, ◌≤ℤ◌, not, ◌&&◌, is_some, int_le, cond, ◌+ℤ◌, Result, Ok, Err, OnOk}
+use Rattle.std.specs.Prelude.{pos, negsuc, nat_abs, ◌≤ℤ◌, not, ◌&&◌, is_some, int_le, cond, ◌+ℤ◌}
 use Rattle.std.proofs.lemmas.Int.{ints}
 use Rattle.std.proofs.lemmas.List.Sums.{sum_by-append}
 use Rattle.smil_model.specs.declared.diary.Entry.{Entry}
@@ -26,9 +26,8 @@ use Rattle.smil_laws.specs.Agreement.{course_on}
 use Rattle.smil_laws.specs.Courses.{ReachesFurther}
 use Rattle.smil_diary.specs.declared.fault.BookFault.{BookFault}
 use Rattle.smil_past.specs.Past.{MarkedHistory}
-use Rattle.smil_cells.specs.Standings.{IsSoundUnderMark, WhereMarked, marked_by, standing_of}
+use Rattle.smil_cells.specs.Standings.{IsSoundUnderMark, WhereMarked, marked_by}
 use Rattle.smil_laws.specs.Same.{IsSame}
-use Rattle.smil_cells.specs.Shown.{touched_at}
 use Rattle.smil_cells.specs.CellsState.{CellsState, is_same_interval, fresh, IsOnWay, IsPassed, IsNext, IsFront, GoesOn, StayTouched, WhereTold, history_of, reached_since, fresh_since, interval_at}
 use Rattle.std.proofs.lemmas.Bool.{and_parts}
 use Rattle.smil_model.proofs.NumberOrders.{le_exact, le_self, time_exact, time_self}
@@ -386,15 +385,3 @@ rested w s t others n nodes view moved here order kept same =
 
 pub no_fewer : (a b c : ℕ) → a ≤ b → b ≤ c → a ≤ c
 no_fewer a b c p q = omega (arith, p, q)
-
--- what was touched before is of no account
-pub goes_on_from : {A : Type 0} (past : MarkedHistory) (moment : ℤ) (fault : Option BookFault) (mark : Option ℤ) (touched others : List ℕ) (new : CellsState) (r : Result A BookFault)
-    → OnOk r (GoesOn (standing_of past moment fault mark others) new) → OnOk r (GoesOn (standing_of past moment fault mark touched) new)
-goes_on_from past moment fault mark touched others new (Ok x) q = record { diary = q.diary; sound = q.sound; marked = q.marked; touched = q.touched; views = q.views }
-goes_on_from past moment fault mark touched others new (Err f) q = q
-
-pub goes_on_new : (old : CellsState) (places : List ℕ) (new : CellsState) → GoesOn (touched_at old places) new → GoesOn old new
-goes_on_new old places new q = record { diary = q.diary; sound = q.sound; marked = q.marked; touched = q.touched; views = q.views }
-
-pub goes_on_at : (old : CellsState) (places : List ℕ) (new : CellsState) → GoesOn old new → GoesOn (touched_at old places) new
-goes_on_at old places new q = record { diary = q.diary; sound = q.sound; marked = q.marked; touched = q.touched; views = q.views }

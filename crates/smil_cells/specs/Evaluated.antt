@@ -1,25 +1,65 @@
 -- Which elements are evaluated after entries, where that is counted.
-use Rattle.std.specs.Prelude.{◌≡◌, ℕ, nat_eq, List, [], ◌∷◌, drop, length, sum_by, pos, true, false, ◌⊎◌, Option, Some, is_some}
-use Rattle.std.specs.List.{IsDistinct}
+use Rattle.std.specs.Prelude.{◌≡◌, ℕ, nat_eq, List, [], ◌∷◌, drop, length, sum_by, pos, Bool, true, false, not, ◌&&◌, ◌||◌, ◌==◌, ◌⊎◌, Option, Some, None, is_some}
+use Rattle.std.specs.List.{IsDistinct, list_any}
 use Rattle.smil_model.specs.declared.diary.Entry.{Entry}
 use Rattle.smil_model.specs.declared.diary.LogEntry.{LogEntry}
+use Rattle.smil_model.specs.declared.diary.Step.{Step}
 use Rattle.smil_model.specs.declared.interval.Interval.{Interval}
 use Rattle.smil_model.specs.declared.document.Node.{Node}
-use Rattle.smil_model.specs.document.Document.{elements, node_at}
+use Rattle.smil_model.specs.declared.document.Edge.TheVariants.{End}
+use Rattle.smil_model.specs.document.Dependencies.{has_implicit_duration}
+use Rattle.smil_model.specs.document.Document.{elements, node_at, time_parent}
 use Rattle.smil_model.specs.document.Closure.{has}
-use Rattle.smil_model.specs.reach.Reach.{reads}
+use Rattle.smil_model.specs.reach.Reach.{key_of, reads, subject_of}
 use Rattle.smil_model.specs.interval.Current.{current_interval}
 use Rattle.smil_model.specs.happening.Resolution.{Progress, next_step}
 use Rattle.smil_laws.specs.Agreement.{course_on}
-use Rattle.smil_laws.specs.Touched.{is_touched_by}
+use Rattle.smil_concern_laws.specs.Concerned.{is_concerned_through, moves}
 use Rattle.smil_cells.specs.CellsState.{CellsState, interval_at, progress_of}
 
--- an element is due where one of the entries touches it,
--- or where one that it reads has another interval behind them
+-- of the element that a step is on, the time parent, where its duration follows from its time
+-- children
+abbrev pub is_container : Option Node → ℕ → Bool
+is_container None s = false
+is_container (Some p) s = (p.serial == s) && has_implicit_duration p
+
+-- a step may change the ends that a container takes of its element: it ends an interval of it,
+-- or the element had none
+abbrev pub may_end : (ℕ → Option Interval) → Step → ℕ → Bool
+may_end before step x = moves End step || not (is_some (before x))
+
+-- the time parent of an element whose ends the step may change
+abbrev pub is_moved_container : List Node → (ℕ → Option Interval) → Step → ℕ → ℕ → Bool
+is_moved_container nodes before step x s =
+    may_end before step x && is_container (time_parent nodes x) s
+
+abbrev pub is_container_of : List Node → (ℕ → Option Interval) → Step → Option ℕ → ℕ → Bool
+is_container_of nodes before step None s = false
+is_container_of nodes before step (Some x) s =
+    is_some (node_at (elements nodes) x) && is_moved_container nodes before step x s
+
+-- a step that is no logged entry acts on its element
+abbrev pub acts_on : Step → Option ℕ
+acts_on step = subject_of [] step
+
+-- an entry concerns the element, or may change the ends of a time child that its duration follows
+-- from
+abbrev pub is_noted_at :
+    List Node → List LogEntry → (ℕ → Option Interval) → ℕ → Entry → Bool
+is_noted_at nodes log before s y =
+    is_concerned_through nodes log (key_of log y.step) (subject_of log y.step) y.step s
+    || is_container_of nodes before y.step (acts_on y.step) s
+
+abbrev pub is_noted_by :
+    List Node → List LogEntry → (ℕ → Option Interval) → List Entry → ℕ → Bool
+is_noted_by nodes log before entries s = list_any (is_noted_at nodes log before s) entries
+
+-- an element is due where one of the entries concerns it, or may change the ends of a time child
+-- from which its duration follows, or where one that it reads has another interval behind them
 abbrev pub IsDue : List Node → List LogEntry → List Entry
     → (ℕ → Option Interval) → (ℕ → Option Interval) → ℕ → Type 0
 IsDue nodes log entries before after s =
-    (is_touched_by nodes log entries s ≡ true)
+    (is_noted_by nodes log before entries s ≡ true)
     ⊎ ((x : ℕ) × (reads nodes x s ≡ true) × (after x ≡ before x → ⊥))
 
 -- of the elements, these were evaluated behind the entries, each once and each due;

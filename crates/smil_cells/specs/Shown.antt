@@ -1,5 +1,5 @@
 -- Where a step shows besides its element, and elements by their places.
-use Rattle.std.specs.Prelude.{◌≡◌, ℕ, List, [], ◌∷◌, ◌++◌, drop, filter, length, Bool, true, false, ◌&&◌, ◌||◌, ◌⊎◌, if◌then◌else◌, Option, Some, None, is_some, IsSome}
+use Rattle.std.specs.Prelude.{◌≡◌, ℕ, ◌<◌, ◌≤◌, List, [], ◌∷◌, ◌++◌, drop, filter, length, Bool, true, false, ◌&&◌, ◌||◌, ◌⊎◌, if◌then◌else◌, Option, Some, None, is_some, IsSome}
 use Rattle.std.specs.List.{list_any}
 use Rattle.smil_model.specs.declared.diary.Entry.{Entry}
 use Rattle.smil_model.specs.declared.diary.LogEntry.{LogEntry}
@@ -62,9 +62,8 @@ shows_from h step (Some x) s = shows_in h step x s
 
 -- whether one of the entries shows, by the history that ends with them
 abbrev pub any_shows : History → List Entry → ℕ → Bool
-any_shows h [] s = false
-any_shows h (y ∷ ys) s =
-    shows_from h y.step (subject_of h.log y.step) s || any_shows h ys s
+any_shows h entries s =
+    list_any (λ (y : Entry). shows_from h y.step (subject_of h.log y.step) s) entries
 
 -- ---- elements by their places
 
@@ -87,11 +86,12 @@ abbrev pub ArePut : List Node → List ℕ → List ℕ → Type 0
 ArePut nodes listed places =
     (s : ℕ) → has listed s ≡ true → IsSome (node_at nodes s) → has places (place_in nodes s) ≡ true
 
--- the elements within this node are at the places
-abbrev pub AreWithinPut : List Node → ℕ → List ℕ → Type 0
-AreWithinPut nodes x places =
-    (e : Node) → node_at (elements nodes) e.serial ≡ Some e → is_within nodes x e.serial ≡ true
-    → has (elements_at nodes places) e.serial ≡ true
+-- besides the places that were in, those from one on up to another are, and no others
+pub record IsRangePut (start end : ℕ) (old new : List ℕ) : Type 0 where
+  pub more : StayIn old new
+  pub put : (place : ℕ) → start ≤ place → place < end → has new place ≡ true
+  pub only : (place : ℕ) → has new place ≡ true
+      → (has old place ≡ true) ⊎ ((start ≤ place) × (place < end))
 
 -- each element at the places was there before, or passes the test
 abbrev pub OnlyMore : List Node → List ℕ → List ℕ → (ℕ → Bool) → Type 0
@@ -99,6 +99,13 @@ OnlyMore nodes old new test =
     (e : Node) → node_at (elements nodes) e.serial ≡ Some e
     → has (elements_at nodes new) e.serial ≡ true
     → (has (elements_at nodes old) e.serial ≡ true) ⊎ (test e.serial ≡ true)
+
+-- besides what was there, the elements that pass the test are at the places, and no others
+pub record ArePutWhere (nodes : List Node) (test : ℕ → Bool) (old new : List ℕ) : Type 0 where
+  pub more : StayIn old new
+  pub put : (e : Node) → node_at (elements nodes) e.serial ≡ Some e → test e.serial ≡ true
+      → has (elements_at nodes new) e.serial ≡ true
+  pub only : OnlyMore nodes old new test
 
 -- the cells with the elements at these places as those that are touched
 abbrev pub touched_at : CellsState → List ℕ → CellsState

@@ -18,14 +18,15 @@ ghost use Rattle.smil_past.specs.Past as past_of;
 ghost use Rattle.smil_element.specs.Parts.{coming_meant};
 ghost use Rattle.smil_cells.specs.CellsState.{GoesOn, IsFront, IsHeard, IsNext, IsPassed, IsRebuilt, IsRefusing, IsSettled, NothingBefore, first_at, MayRebuild, CellsState, StayTouched, WhereTold, any_interval, fresh_since, history_of, interval_at, reached_since, with_logged};
 ghost use Rattle.smil_cells.specs.Evaluated.{HasEvaluatedBehind, HasEvaluatedSince};
-ghost use Rattle.smil_cells.specs.Shown.{OnlyChanged, TouchesOnly, TouchesOnlySince, touched_at};
+ghost use Rattle.smil_cells.specs.Settling.{HasRefused, HasSettled, IsCounted};
+ghost use Rattle.smil_cells.specs.Shown.{OnlyChanged, TouchesOnly, touched_at};
 ghost use Rattle.smil_cells.specs.Standings.{MayBegin, at_mark, begun};
 ghost use Rattle.smil_laws.specs.Same.{IsSame};
 
+use super::entries::take_entries;
 use super::named::{heard_log, last_moment, logged_among};
-use super::order::{put_nodes, take_elements};
+use super::order::take_elements;
 use super::table::{Since, Table};
-use super::touched::touch;
 use smil_diary::{Book, BookFault};
 use smil_element::DueChange;
 use smil_graph::Graph;
@@ -456,22 +457,13 @@ impl<T: Table> Cells<T> {
         requires sound { self.old.fault ≡ None }
         requires from { pos self.old.presentation.now ≤ℤ until }
         requires within { until ≤ℤ the_horizon }
-        ensures state { OnOk result (self.new.presentation
-            ≡ as_of self.old.presentation (nat_abs until)) }
-        ensures settled { OnOk result (IsSettled self.new) }
-        ensures goes_on { OnOk result (GoesOn self.old self.new) }
-        ensures more { OnOk result (StayTouched (touched_at self.old places) self.new) }
-        ensures refused { IfErr result (IsRefusing self.old self.new) }
-        ensures full { IfErr result (λ fault. fault ≡ book_fault.DiaryFull
-            → IsFront (course_of (as_of self.old.presentation (nat_abs until))) self.new.diary) }
+        ensures settled { OnOk result (HasSettled (nat_abs until) (touched_at self.old places)
+            self.new) }
+        ensures refused { IfErr result (HasRefused
+            (course_of (as_of self.old.presentation (nat_abs until))) self.old self.new) }
         ensures counted { steps.old ≤ steps.new }
-        ensures most { OnOk result (WhereTold T.counts
-            (steps.new - steps.old ≤ reached_since self.old self.new)) }
-        ensures least { OnOk result (WhereTold T.counts
-            (fresh_since self.old self.new ≤ steps.new - steps.old)) }
-        ensures evaluated { OnOk result (WhereTold T.counts
-            (HasEvaluatedSince self.old self.new (steps.new - steps.old))) }
-        ensures only { OnOk result (TouchesOnlySince (touched_at self.old places) self.new) }
+        ensures evaluated { OnOk result (IsCounted T.counts HasEvaluatedSince self.old self.new
+            (steps.new - steps.old)) }
     {
         reaches_further();
         self.past.possible();
@@ -586,18 +578,13 @@ impl<T: Table> Cells<T> {
         requires settled { NothingBefore self.old (pos self.old.presentation.now +ℤ pos 1) }
         ensures heard { OnOk result (IsHeard (touched_at self.old places.old) entry
             (touched_at self.new places.new)) }
-        ensures refused { IfErr result (IsRefusing self.old self.new) }
-        ensures full { IfErr result (λ fault. fault ≡ book_fault.DiaryFull
-            → IsFront (course_of (with_logged self.old.presentation entry)) self.new.diary) }
-        ensures counted { steps.old ≤ steps.new }
-        ensures most { OnOk result (WhereTold T.counts
-            (steps.new - steps.old ≤ reached_since self.old self.new)) }
-        ensures least { OnOk result (WhereTold T.counts
-            (fresh_since self.old self.new ≤ steps.new - steps.old)) }
-        ensures evaluated { OnOk result (WhereTold T.counts
-            (HasEvaluatedBehind self.old self.new (steps.new - steps.old))) }
         ensures only { OnOk result (TouchesOnly (touched_at self.old places.old)
             (touched_at self.new places.new)) }
+        ensures refused { IfErr result (HasRefused
+            (course_of (with_logged self.old.presentation entry)) self.old self.new) }
+        ensures counted { steps.old ≤ steps.new }
+        ensures evaluated { OnOk result (IsCounted T.counts HasEvaluatedBehind self.old self.new
+            (steps.new - steps.old)) }
     {
         log_may_be_longer();
         reaches_further();
@@ -610,15 +597,12 @@ impl<T: Table> Cells<T> {
             return Err(fault);
         }
         self.past.possible();
-        touch(&self.past, from, places)?;
         let since = Since {
             past: &self.past,
             from,
             moment: self.moment,
         };
-        self.changed.cut_back(0);
-        self.table.refresh(&since, &mut self.changed, steps)?;
-        put_nodes(self.past.tree(), &self.changed, places)?;
+        take_entries(&since, &mut self.table, &mut self.changed, places, steps)?;
         self.fault = None;
         Ok(())
     }
@@ -635,18 +619,13 @@ impl<T: Table> Cells<T> {
         requires due { coming.key.value ≤ℤ pos self.old.presentation.now }
         ensures next { OnOk result (IsNext (touched_at self.old places.old)
             (touched_at self.new places.new)) }
-        ensures refused { IfErr result (IsRefusing self.old self.new) }
-        ensures full { IfErr result (λ fault. fault ≡ book_fault.DiaryFull
-            → IsFront (course_of self.old.presentation) self.new.diary) }
-        ensures counted { steps.old ≤ steps.new }
-        ensures most { OnOk result (WhereTold T.counts
-            (steps.new - steps.old ≤ reached_since self.old self.new)) }
-        ensures least { OnOk result (WhereTold T.counts
-            (fresh_since self.old self.new ≤ steps.new - steps.old)) }
-        ensures evaluated { OnOk result (WhereTold T.counts
-            (HasEvaluatedBehind self.old self.new (steps.new - steps.old))) }
         ensures only { OnOk result (TouchesOnly (touched_at self.old places.old)
             (touched_at self.new places.new)) }
+        ensures refused { IfErr result (HasRefused (course_of self.old.presentation) self.old
+            self.new) }
+        ensures counted { steps.old ≤ steps.new }
+        ensures evaluated { OnOk result (IsCounted T.counts HasEvaluatedBehind self.old self.new
+            (steps.new - steps.old)) }
     {
         first_is_of_element();
         resolved_is_near();
@@ -659,16 +638,12 @@ impl<T: Table> Cells<T> {
             return Err(fault);
         }
         self.past.possible();
-        touch(&self.past, from, places)?;
         let since = Since {
             past: &self.past,
             from,
             moment: self.moment,
         };
-        self.changed.cut_back(0);
-        let intervals = &mut self.table;
-        intervals.refresh(&since, &mut self.changed, steps)?;
-        put_nodes(self.past.tree(), &self.changed, places)?;
+        take_entries(&since, &mut self.table, &mut self.changed, places, steps)?;
         self.fault = None;
         Ok(())
     }

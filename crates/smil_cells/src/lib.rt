@@ -2,6 +2,7 @@
 #![tactic(auto)]
 
 pub mod cells;
+mod entries;
 mod named;
 mod order;
 pub mod table;

@@ -1,10 +1,10 @@
 //! Places of nodes put into a set, and the elements there taken in document order.
 
-ghost use Rattle.std.specs.Prelude.{◌≡◌, ◌==◌, ◌⊎◌, ℕ, ◌++◌, ◌≤◌, ◌<◌, filter, true, OnOk, IsSome, slice_get};
+ghost use Rattle.std.specs.Prelude.{◌≡◌, ◌==◌, ℕ, ◌++◌, filter, true, OnOk, IsSome, slice_get};
 ghost use Rattle.smil_model.specs.document.Document.{elements, node_at, serials};
 ghost use Rattle.smil_model.specs.document.Closure.{has};
 ghost use Rattle.smil_model.specs.document.Edits.{place_in};
-ghost use Rattle.smil_cells.specs.Shown.{ArePut, OnlyMore, StayIn, elements_at, nodes_of};
+ghost use Rattle.smil_cells.specs.Shown.{ArePut, IsRangePut, OnlyMore, StayIn, elements_at, nodes_of};
 
 use smil_model::{PlaceSet, Serials};
 use smil_tree::Tree;
@@ -40,11 +40,7 @@ fn put_node(tree: &Tree, serial: u32, places: &mut PlaceSet) -> Result<(), Alloc
 
 /// Puts the places from one on up to another in, and no others. Refused where memory runs out.
 pub fn put_range(places: &mut PlaceSet, start: usize, end: usize) -> Result<(), AllocError>
-    ensures more { OnOk result (StayIn places.old places.new) }
-    ensures put { OnOk result ((place : ℕ) → start ≤ place → place < end
-        → has places.new place ≡ true) }
-    ensures only { OnOk result ((place : ℕ) → has places.new place ≡ true
-        → (has places.old place ≡ true) ⊎ ((start ≤ place) × (place < end))) }
+    ensures { OnOk result (IsRangePut start end places.old places.new) }
 {
     for place in start..end {
         places.put(place)?;
@@ -76,9 +72,8 @@ fn push_element(tree: &Tree, place: usize, list: &mut Serials) -> Result<(), All
     ensures { OnOk result (list.new
         ≡ list.old ++ serials (elements (nodes_of (slice_get tree.now.nodes place)))) }
 {
-    tree.valid();
-    match tree.serial_at(place) {
-        Some(serial) if tree.kind(serial).is_element() => list.push(serial),
+    match tree.at(place) {
+        Some(node) if node.kind.is_element() => list.push(node.serial),
         _ => Ok(()),
     }
 }

@@ -3,13 +3,12 @@
 ghost use Rattle.std.specs.Prelude.{◌≡◌, ℕ, ◌≤◌, ◌&&◌, ◌||◌, length, drop, true, Some, OnOk, IsSome, is_some};
 ghost use Rattle.smil_model.specs.declared.document.Node.{Node as AnyNode};
 ghost use Rattle.smil_model.specs.document.Document.{elements, is_excl_kind, is_seq_kind, is_within, node_at, serial_of, time_children};
-ghost use Rattle.smil_model.specs.document.Closure.{has};
 ghost use Rattle.smil_model.specs.diary.Lawful.{has_element};
 ghost use Rattle.smil_model.specs.diary.Plays.{last_finished};
 ghost use Rattle.smil_model.specs.reach.Reach.{subject_of};
 ghost use Rattle.smil_laws.specs.Seen.{starts as starts_in};
 ghost use Rattle.smil_past.specs.Past.{history_of};
-ghost use Rattle.smil_cells.specs.Shown.{AreWithinPut, OnlyMore, StayIn, any_rests, any_shows, displaced_in, elements_at, is_freeze, may_rest, shows_from, shows_in};
+ghost use Rattle.smil_cells.specs.Shown.{ArePutWhere, any_rests, any_shows, displaced_in, is_freeze, may_rest, shows_from, shows_in};
 
 use super::order::put_range;
 use smil_instances::subject;
@@ -24,12 +23,8 @@ use std::alloc::AllocError;
 /// of that.
 pub fn touch(past: &Past, from: usize, touched: &mut PlaceSet) -> Result<(), AllocError>
     requires { from ≤ length past.now.diary }
-    ensures more { OnOk result (StayIn touched.old touched.new) }
-    ensures shown { OnOk result ((e : AnyNode) → node_at (elements past.now.document.nodes) e.serial
-        ≡ Some e → any_shows (history_of past.now) (drop from past.now.diary) e.serial ≡ true
-        → has (elements_at past.now.document.nodes touched.new) e.serial ≡ true) }
-    ensures only { OnOk result (OnlyMore past.now.document.nodes touched.old touched.new
-        (any_shows (history_of past.now) (drop from past.now.diary))) }
+    ensures { OnOk result (ArePutWhere past.now.document.nodes
+        (any_shows (history_of past.now) (drop from past.now.diary)) touched.old touched.new) }
 {
     for entry in &past.book().entries()[from..] {
         touch_step(past, entry.step, touched)?;
@@ -39,13 +34,9 @@ pub fn touch(past: &Past, from: usize, touched: &mut PlaceSet) -> Result<(), All
 
 // Puts the places of the elements whose views a step may change.
 fn touch_step(past: &Past, step: Step, touched: &mut PlaceSet) -> Result<(), AllocError>
-    ensures more { OnOk result (StayIn touched.old touched.new) }
-    ensures shown { OnOk result ((e : AnyNode) → node_at (elements past.now.document.nodes) e.serial
-        ≡ Some e
-        → shows_from (history_of past.now) step (subject_of past.now.log step) e.serial ≡ true
-        → has (elements_at past.now.document.nodes touched.new) e.serial ≡ true) }
-    ensures only { OnOk result (OnlyMore past.now.document.nodes touched.old touched.new
-        (shows_from (history_of past.now) step (subject_of past.now.log step))) }
+    ensures { OnOk result (ArePutWhere past.now.document.nodes
+        (shows_from (history_of past.now) step (subject_of past.now.log step)) touched.old
+        touched.new) }
 {
     match subject(past.log(), step) {
         Some(who) => touch_element(past, step, who, touched),
@@ -61,12 +52,8 @@ fn touch_element(
     who: u32,
     touched: &mut PlaceSet,
 ) -> Result<(), AllocError>
-    ensures more { OnOk result (StayIn touched.old touched.new) }
-    ensures shown { OnOk result ((e : AnyNode) → node_at (elements past.now.document.nodes) e.serial
-        ≡ Some e → shows_in (history_of past.now) step who e.serial ≡ true
-        → has (elements_at past.now.document.nodes touched.new) e.serial ≡ true) }
-    ensures only { OnOk result (OnlyMore past.now.document.nodes touched.old touched.new
-        (shows_in (history_of past.now) step who)) }
+    ensures { OnOk result (ArePutWhere past.now.document.nodes
+        (shows_in (history_of past.now) step who) touched.old touched.new) }
 {
     let tree = past.tree();
     tree.valid();
@@ -83,12 +70,9 @@ fn touch_element(
 // Puts the places of the children of a time parent that may be frozen, and of what is below these
 // in.
 fn touch_resting(past: &Past, parent: u32, touched: &mut PlaceSet) -> Result<(), AllocError>
-    ensures more { OnOk result (StayIn touched.old touched.new) }
-    ensures put { OnOk result ((e : AnyNode) → node_at (elements past.now.document.nodes) e.serial
-        ≡ Some e → any_rests (history_of past.now) (time_children past.now.document.nodes parent)
-        e.serial ≡ true → has (elements_at past.now.document.nodes touched.new) e.serial ≡ true) }
-    ensures only { OnOk result (OnlyMore past.now.document.nodes touched.old touched.new
-        (any_rests (history_of past.now) (time_children past.now.document.nodes parent))) }
+    ensures { OnOk result (ArePutWhere past.now.document.nodes
+        (any_rests (history_of past.now) (time_children past.now.document.nodes parent))
+        touched.old touched.new) }
 {
     past.possible();
     for child in past.tree().time_children(parent) {
@@ -100,13 +84,10 @@ fn touch_resting(past: &Past, parent: u32, touched: &mut PlaceSet) -> Result<(),
 // Puts the places of an element and of those below it in, where it may be frozen.
 fn touch_where_resting(past: &Past, who: u32, touched: &mut PlaceSet) -> Result<(), AllocError>
     requires { has_element past.now.document.nodes who ≡ true }
-    ensures more { OnOk result (StayIn touched.old touched.new) }
-    ensures put { OnOk result ((n : AnyNode) → node_at (elements past.now.document.nodes) who
-        ≡ Some n → may_rest (history_of past.now) n ≡ true
-        → AreWithinPut past.now.document.nodes who touched.new) }
-    ensures only { OnOk result ((n : AnyNode) → node_at (elements past.now.document.nodes) who
-        ≡ Some n → OnlyMore past.now.document.nodes touched.old touched.new
-        (λ (s : ℕ). may_rest (history_of past.now) n && is_within past.now.document.nodes who s)) }
+    ensures { (n : AnyNode) → node_at (elements past.now.document.nodes) who ≡ Some n
+        → OnOk result (ArePutWhere past.now.document.nodes
+        (λ (s : ℕ). may_rest (history_of past.now) n && is_within past.now.document.nodes who s)
+        touched.old touched.new) }
 {
     if may_rest(past, who) {
         touch_within(past.tree(), who, touched)
@@ -176,10 +157,8 @@ fn plays_one(kind: Kind) -> bool
 #[inline(never)]
 fn touch_within(tree: &Tree, who: u32, touched: &mut PlaceSet) -> Result<(), AllocError>
     requires { IsSome (node_at tree.now.nodes who) }
-    ensures more { OnOk result (StayIn touched.old touched.new) }
-    ensures within { OnOk result (AreWithinPut tree.now.nodes who touched.new) }
-    ensures only { OnOk result (OnlyMore tree.now.nodes touched.old touched.new
-        (is_within tree.now.nodes who)) }
+    ensures { OnOk result (ArePutWhere tree.now.nodes (is_within tree.now.nodes who) touched.old
+        touched.new) }
 {
     tree.valid();
     let (start, end) = tree.span(who);

@@ -1,5 +1,5 @@
 -- Nothing is listed any more.
-use Rattle.std.proofs.Common.{◌≡◌, refl, ◌∙◌, ap, sym, ℕ, ◌+◌, ◌-◌, ◌≤◌, List, [], ◌∷◌, ◌++◌, length, Option, ℤ, Bool, true, false, arith, inl, inr}
+use Rattle.std.proofs.Common.{◌≡◌, refl, ◌∙◌, ap, subst, sym, ℕ, ◌+◌, ◌-◌, ◌≤◌, List, [], ◌∷◌, ◌++◌, length, Option, ℤ, Bool, true, false, arith, inl, inr}
 use Rattle.std.specs.Prelude.{◌&&◌, ◌==◌, not, is_some}
 use Rattle.std.proofs.lemmas.Bool.{eqb-true, or_left, or_parts}
 use Rattle.std.proofs.lemmas.List.Folds.{list_any-append}
@@ -21,7 +21,7 @@ use Rattle.smil_rounds.specs.Round.{AreRowsEvaluated, StayUnchanged}
 use Rattle.smil_cells.specs.CellsState.{any_interval, fresh, is_same_interval}
 use Rattle.smil_rounds.proofs.CurrentRowsExact.{all_current}
 use Rattle.smil_cells.proofs.SettlingSteps.{same_self}
-use Rattle.smil_cells.specs.Evaluated.{AreChanged, IsDue}
+use Rattle.smil_cells.specs.Evaluated.{AreChanged, IsDue, is_noted_by}
 use Rattle.smil_nodes.specs.Work.{AreDueOnce, AreSettled, IsCounted}
 use Rattle.smil_nodes.proofs.ElementsCounted.{passing_within, within_reaches}
 use Rattle.smil_nodes.proofs.RowAtElement.{current_intervals}
@@ -102,7 +102,7 @@ module _ (h : History) (moment : ℤ) (nodes : List Node) (log : List LogEntry) 
   }
     where
       is_due : (s : ℕ) → IsDue nodes log entries (interval_in first) (interval_in rows) s → IsDue nodes log entries before after s
-      is_due s (inl noted) = inl noted
+      is_due s (inl noted) = inl (subst (λ (g : ℕ → Option Interval). is_noted_by nodes log g entries s ≡ true) (λ i x. was x i) noted)
       is_due s (inr (x, reading, differs)) = inr (x, reading, λ same. differs (is x ∙ same ∙ sym (was x)))
 
   -- at least as many as have an interval that they had not

@@ -1,31 +1,33 @@
--- Entries leave each element that they do not touch with the ends that it had.
-use Rattle.std.proofs.Common.{◌≡◌, refl, sym, ◌∙◌, ap, ℕ, List, [], ◌∷◌, ◌++◌, Option, Some, None, Bool, true, false, append_assoc}
-use Rattle.std.specs.Prelude.{◌&&◌, ◌==◌, if◌then◌else◌, is_some, option_map, reverse}
-use Rattle.std.specs.List.{last_or}
+-- Entries leave each element on which, and on what is above which, they do not act with its ends.
+use Rattle.std.proofs.Common.{◌≡◌, refl, sym, ◌∙◌, ap, ℕ, ℤ, List, [], ◌∷◌, ◌++◌, Option, Some, None, Bool, true, false, append_assoc, inl, inr}
+use Rattle.std.specs.Prelude.{◌&&◌, ◌==◌, ◌⊎◌, cond, fold, if◌then◌else◌, is_some, option_map, reverse}
+use Rattle.std.specs.List.{last_or, list_any}
 use Rattle.std.specs.Option.{option_or}
 use Rattle.std.proofs.lemmas.Bool.{or_parts}
 use Rattle.std.proofs.lemmas.List.{append-nil}
+use Rattle.std.proofs.lemmas.List.Sums.{fold_push}
 use Rattle.smil_model.specs.declared.times.Time.TheVariants.{Unresolved}
 use Rattle.smil_model.specs.declared.diary.Entry.{Entry}
 use Rattle.smil_model.specs.declared.interval.ChildEnd.{ChildEnd}
 use Rattle.smil_model.specs.declared.interval.Interval.{Interval}
+use Rattle.smil_model.specs.declared.diary.Step.{Step}
+use Rattle.smil_model.specs.declared.diary.Step.TheVariants.{Began, Repeated, Ended, Cut}
+use Rattle.smil_model.specs.declared.document.Edge.TheVariants.{End}
 use Rattle.smil_model.specs.declared.document.Node.{Node}
-use Rattle.smil_model.specs.document.Document.{elements, node_at}
-use Rattle.smil_model.specs.diary.Diary.{History, is_deferred, up_to}
-use Rattle.smil_model.specs.diary.Plays.{Plays, first_of, plays}
+use Rattle.smil_model.specs.document.Document.{elements, is_element, is_within, lineage, node_at, time_parent}
+use Rattle.smil_model.specs.diary.Clocks.{outer}
+use Rattle.smil_model.specs.diary.Diary.{History, gives_birth, is_deferred, up_to}
+use Rattle.smil_model.specs.diary.Plays.{FinishedInterval, Plays, first_of, is_birth_under, play_after, plays}
 use Rattle.smil_model.specs.interval.Current.{child_end, finish_time, is_named_child}
-use Rattle.smil_model.specs.reach.Reach.{key_of, subject_of}
+use Rattle.smil_concern_laws.specs.Unconcerned.{SameDone, SameEnds}
+use Rattle.smil_concern_laws.specs.Concerned.{moves}
+use Rattle.smil_concern_laws.proofs.Lineages.{own_parent_apart}
+use Rattle.smil_concern_laws.proofs.ReadingsStay.{around_itself}
 use Rattle.smil_laws.specs.Locality.{ParentsBefore}
-use Rattle.smil_laws.specs.Touched.{is_touched, is_touched_by, is_touched_from, is_touched_through}
-use Rattle.smil_laws.proofs.ForeignEntries.{Apart, deferral-then, is_about, plays-then}
-use Rattle.smil_laws.proofs.ReachLaw.{IsMute}
-use Rattle.smil_laws.proofs.TouchedStay.{far_absent, far_untouched, mute}
-use Rattle.smil_laws.proofs.UnreachedIntervals.{about_no_one, about_none, absent, found_here, fresh, lone_press}
-
--- what has happened to an element is the same by two histories
-pub record SameDone (h k : History) (s : ℕ) : Type 0 where
-  pub plays_are : plays k s ≡ plays h s
-  pub deferred : is_deferred k s ≡ is_deferred h s
+use Rattle.smil_laws.proofs.ForeignEntries.{Apart, deferral-then, fold_same, is_about, plays-then}
+use Rattle.smil_laws.proofs.ReachClosed.{any_kept, any_reverse, chain_begins, from_serials, no_element_above, own_is_all}
+use Rattle.smil_laws.proofs.UnreachedIntervals.{about_no_one, about_none, absent, found_here, fresh, outside_all}
+use Rattle.smil_cells.specs.Evaluated.{acts_on}
 
 -- what a container takes of a time child
 abbrev end_from : Node → Node → Option Interval → Plays → Bool → ChildEnd
@@ -44,7 +46,29 @@ same_end h k given e c same = λ i. end_from e c (given c.serial) (same.plays_ar
 pub end_by_interval : (h : History) (before after : ℕ → Option Interval) (e c : Node) → after c.serial ≡ before c.serial → child_end h after e c ≡ child_end h before e c
 end_by_interval h before after e c same = ap (λ o. end_from e c o (plays h c.serial) (is_deferred h c.serial)) same
 
+-- ---- acting
+
+-- an element is within one that is acted on
+abbrev pub is_acted_on : List Node → Option ℕ → ℕ → Bool
+is_acted_on nodes None s = false
+is_acted_on nodes (Some x) s = is_some (node_at (elements nodes) x) && is_within nodes x s
+
+abbrev pub is_acted_by : List Node → List Entry → ℕ → Bool
+is_acted_by nodes ys s = list_any (λ (y : Entry). is_acted_on nodes (acts_on y.step) s) ys
+
+-- an entry acts on nothing that an element is within, or on it without ending an interval of it
+abbrev pub EndsNothing : List Node → ℕ → Entry → Type 0
+EndsNothing nodes s y = (is_acted_on nodes (acts_on y.step) s ≡ false) ⊎ ((acts_on y.step ≡ Some s) × (moves End y.step ≡ false))
+
+abbrev pub NoneEnds : List Node → ℕ → List Entry → Type 0
+NoneEnds nodes s [] = Unit {0}
+NoneEnds nodes s (y ∷ ys) = EndsNothing nodes s y × NoneEnds nodes s ys
+
 -- ---- one entry
+
+-- what has happened to an element is read of no log
+without_log : (h : History) (y : Entry) (s : ℕ) → (let bare : History = record { nodes = h.nodes; log = []; diary = h.diary } in SameDone bare (up_to bare (h.diary ++ y ∷ [])) s) → SameDone h (up_to h (h.diary ++ y ∷ [])) s
+without_log h y s same = record { plays_are = same.plays_are; deferred = same.deferred }
 
 module _ (c : Node) where
   apart_done : (h : History) (first : ParentsBefore (reverse h.nodes)) (y : Entry) (x : ℕ) (only : (s : ℕ) → s == x ≡ false → is_about h.log s y.step ≡ false) → Apart h.nodes x c.serial → SameDone h (up_to h (h.diary ++ y ∷ [])) c.serial
@@ -53,39 +77,40 @@ module _ (c : Node) where
     deferred = ap is_some (deferral-then h first y x only c.serial apart);
   }
 
-  aloof_done : (h : History) → ParentsBefore (reverse h.nodes) → (y : Entry) → node_at (elements h.nodes) c.serial ≡ Some c → subject_of h.log y.step ≡ None → IsMute h.nodes h.log y.step c → SameDone h (up_to h (h.diary ++ y ∷ [])) c.serial
-  aloof_done h first y here on silent =
-      let x = fresh h first y in
-      let only = λ (s : ℕ) (d : s == x ≡ false). about_no_one h.log y.step s on in
-      apart_done h first y x only (far_absent h first y x only c here silent (absent h first y)).apart
+  apart_within : (nodes : List Node) (x : ℕ) → node_at (elements nodes) c.serial ≡ Some c → is_within nodes x c.serial ≡ false → Apart nodes x c.serial
+  apart_within nodes x here free = record {
+    self = chain_begins (reverse nodes) c.serial x (any_reverse (λ (n : Node). n.serial == c.serial) nodes (any_kept is_element (λ (n : Node). n.serial == c.serial) (λ (n : Node). n.serial == c.serial) nodes (λ n p q. q) (from_serials c.serial (elements nodes) (own_is_all nodes x c here)))) free;
+    above = no_element_above x (lineage nodes c.serial) free;
+  }
 
-  from_done : (h : History) → ParentsBefore (reverse h.nodes) → (y : Entry) → node_at (elements h.nodes) c.serial ≡ Some c → IsMute h.nodes h.log y.step c → (o : Option ℕ) → subject_of h.log y.step ≡ o → is_touched_from h.nodes o c.serial ≡ false → SameDone h (up_to h (h.diary ++ y ∷ [])) c.serial
-  from_done h first y here silent None on free = aloof_done h first y here on silent
-  from_done h first y here silent (Some x) on free = by_found (is_some (node_at (elements h.nodes) x)) refl free
-    where
-      only : (s : ℕ) → s == x ≡ false → is_about h.log s y.step ≡ false
-      only s d = about_none h.log y.step x s on d
-
-      by_found : (b : Bool) → is_some (node_at (elements h.nodes) x) ≡ b → (b && is_touched h.nodes x c.serial) ≡ false → SameDone h (up_to h (h.diary ++ y ∷ [])) c.serial
-      by_found true q r = apart_done h first y x only (far_untouched h first y x only c here silent r).apart
-      by_found false q r = apart_done h first y x only (far_absent h first y x only c here silent (found_here x (elements h.nodes) q)).apart
-
-  one_done : (h : History) → ParentsBefore (reverse h.nodes) → (y : Entry) → node_at (elements h.nodes) c.serial ≡ Some c → (k : Option ℕ) → key_of h.log y.step ≡ k → is_touched_through h.nodes k (subject_of h.log y.step) c.serial ≡ false → SameDone h (up_to h (h.diary ++ y ∷ [])) c.serial
+  one_done : (h : History) → ParentsBefore (reverse h.nodes) → (y : Entry) → node_at (elements h.nodes) c.serial ≡ Some c → (o : Option ℕ) → acts_on y.step ≡ o → is_acted_on h.nodes o c.serial ≡ false → SameDone h (up_to h (h.diary ++ y ∷ [])) c.serial
   one_done h first y here None on free =
-      from_done h first y here (mute h.nodes h.log y.step c here None on free) (subject_of h.log y.step) refl free
-  one_done h first y here (Some key) on free =
-      aloof_done h first y here (lone_press h.log y.step key on) (mute h.nodes h.log y.step c here (Some key) on free)
+      let bare : History = record { nodes = h.nodes; log = []; diary = h.diary } in
+      without_log h y c.serial
+      (apart_done bare first y (fresh bare first y) (λ s d. about_no_one [] y.step s on)
+      (outside_all h.nodes (fresh bare first y) (absent bare first y) c here).apart)
+  one_done h first y here (Some x) on free = by_found (is_some (node_at (elements h.nodes) x)) refl free
+    where
+      bare : History
+      bare = record { nodes = h.nodes; log = []; diary = h.diary }
+
+      only : (s : ℕ) → s == x ≡ false → is_about [] s y.step ≡ false
+      only s d = about_none [] y.step x s on d
+
+      by_found : (b : Bool) → is_some (node_at (elements h.nodes) x) ≡ b → (b && is_within h.nodes x c.serial) ≡ false → SameDone h (up_to h (h.diary ++ y ∷ [])) c.serial
+      by_found true q r = without_log h y c.serial (apart_done (record { nodes = h.nodes; log = []; diary = h.diary }) first y x only (apart_within h.nodes x here r))
+      by_found false q r = without_log h y c.serial (apart_done (record { nodes = h.nodes; log = []; diary = h.diary }) first y x only (outside_all h.nodes x (found_here x (elements h.nodes) q) c here).apart)
 
   -- ---- entries one by one
 
-  pub all_done : (h : History) (ys : List Entry) → ParentsBefore (reverse h.nodes) → node_at (elements h.nodes) c.serial ≡ Some c → is_touched_by h.nodes h.log ys c.serial ≡ false → SameDone h (up_to h (h.diary ++ ys)) c.serial
+  pub all_done : (h : History) (ys : List Entry) → ParentsBefore (reverse h.nodes) → node_at (elements h.nodes) c.serial ≡ Some c → is_acted_by h.nodes ys c.serial ≡ false → SameDone h (up_to h (h.diary ++ ys)) c.serial
   all_done h [] first here free = record {
     plays_are = ap (λ d. plays (up_to h d) c.serial) (append-nil h.diary);
     deferred = ap (λ d. is_deferred (up_to h d) c.serial) (append-nil h.diary);
   }
   all_done h (y ∷ ys) first here free =
       let parts = or_parts _ _ free in
-      let now_same = one_done h first y here (key_of h.log y.step) refl parts.0 in
+      let now_same = one_done h first y here (acts_on y.step) refl parts.0 in
       let later_same = all_done (up_to h (h.diary ++ y ∷ [])) ys first here parts.1 in
       record {
         plays_are =
@@ -95,3 +120,73 @@ module _ (c : Node) where
             ap (λ d. is_deferred (up_to h d) c.serial) (sym (append_assoc h.diary (y ∷ []) ys))
             ∙ later_same.deferred ∙ now_same.deferred;
       }
+
+  -- ---- where no interval of it is ended
+
+  -- an entry on the element itself
+  own_finished : (h : History) (first : ParentsBefore (reverse h.nodes)) (y : Entry) → acts_on y.step ≡ Some c.serial → moves End y.step ≡ false → (plays (up_to h (h.diary ++ y ∷ [])) c.serial).finished ≡ (plays h c.serial).finished
+  own_finished h first y on still =
+      ap (λ (p : Plays). p.finished) (fold_push (follow (up_to h (h.diary ++ y ∷ []))) none h.diary y)
+      ∙ last_one (fold (follow (up_to h (h.diary ++ y ∷ []))) none h.diary)
+      ∙ ap (λ (p : Plays). p.finished) (fold_same (follow (up_to h (h.diary ++ y ∷ []))) (follow h) none h.diary (λ b z. ap (λ r. cond (is_birth_under (time_parent h.nodes c.serial) z.step) (record { present = b.present; finished = [] }) r) (each z.moment b z.step)))
+    where
+      none : Plays
+      none = record { present = None; finished = [] }
+
+      follow : History → Plays → Entry → Plays
+      follow k = λ so_far z. cond (is_birth_under (time_parent h.nodes c.serial) z.step) (record { present = so_far.present; finished = [] }) (play_after k c.serial z.moment so_far z.step)
+
+      only : (s : ℕ) → s == c.serial ≡ false → is_about [] s y.step ≡ false
+      only s d = about_none [] y.step c.serial s on d
+
+      outer_is : (m : ℤ) → outer (up_to h (h.diary ++ y ∷ [])) c.serial m ≡ outer h c.serial m
+      outer_is m = (around_itself (record { nodes = h.nodes; log = []; diary = h.diary }) first y c.serial only).outer_same m
+
+      each : (m : ℤ) (b : Plays) (step : Step) → play_after (up_to h (h.diary ++ y ∷ [])) c.serial m b step ≡ play_after h c.serial m b step
+      each m b (Cut who) = rw (outer_is m)
+      each m b _ = refl
+
+      unborn : is_birth_under (time_parent h.nodes c.serial) y.step ≡ false
+      unborn = under (time_parent h.nodes c.serial) (λ p. own_parent_apart h.nodes first c.serial p)
+        where
+          under : (o : Option Node) → ((p : Node) → o ≡ Some p → Apart h.nodes c.serial p.serial) → is_birth_under o y.step ≡ false
+          under None far = refl
+          under (Some p) far = reset_other p.serial y.step (only p.serial ((far p refl).self))
+            where
+              reset_other : (s : ℕ) (step : Step) → is_about [] s step ≡ false → gives_birth s step ≡ false
+              reset_other s (Began who begin) q = q
+              reset_other s (Repeated who start) q = q
+              reset_other s _ q = refl
+
+      kept : (t : Bool) (a b : Plays) → a.finished ≡ b.finished → (cond t a b).finished ≡ b.finished
+      kept true a b q = q
+      kept false a b q = refl
+
+      by_step : (m : ℤ) (b : Plays) (step : Step) → moves End step ≡ false → (play_after (up_to h (h.diary ++ y ∷ [])) c.serial m b step).finished ≡ b.finished
+      by_step m b (Began who begin) q = kept (who == c.serial) (record { present = Some (record { value = begin; moment = m }); finished = b.finished }) b refl
+      by_step m b (Ended who end') q = cc
+      by_step m b (Cut who) q = cc
+      by_step m b _ q = refl
+
+      last_one : (b : Plays) → (follow (up_to h (h.diary ++ y ∷ [])) b y).finished ≡ b.finished
+      last_one b =
+          ap (λ t. (cond t (record { present = b.present; finished = [] }) (play_after (up_to h (h.diary ++ y ∷ [])) c.serial y.moment b y.step)).finished) unborn
+          ∙ by_step y.moment b y.step still
+
+  all_finished : (h : History) (ys : List Entry) → ParentsBefore (reverse h.nodes) → node_at (elements h.nodes) c.serial ≡ Some c → NoneEnds h.nodes c.serial ys → (plays (up_to h (h.diary ++ ys)) c.serial).finished ≡ (plays h c.serial).finished
+  all_finished h [] first here none = ap (λ d. (plays (up_to h d) c.serial).finished) (append-nil h.diary)
+  all_finished h (y ∷ ys) first here none =
+      ap (λ d. (plays (up_to h d) c.serial).finished) (sym (append_assoc h.diary (y ∷ []) ys))
+      ∙ all_finished (up_to h (h.diary ++ y ∷ [])) ys first here none.1
+      ∙ one none.0
+    where
+      one : EndsNothing h.nodes c.serial y → (plays (up_to h (h.diary ++ y ∷ [])) c.serial).finished ≡ (plays h c.serial).finished
+      one (inl free) = ap (λ (p : Plays). p.finished) (one_done h first y here (acts_on y.step) refl free).plays_are
+      one (inr own) = own_finished h first y own.0 own.1
+
+  -- its ends by an interval that it has stay
+  pub ends_by_interval : (h : History) (ys : List Entry) (i : Interval) → ParentsBefore (reverse h.nodes) → node_at (elements h.nodes) c.serial ≡ Some c → NoneEnds h.nodes c.serial ys → SameEnds h (up_to h (h.diary ++ ys)) (Some i) (Some i) c.serial
+  ends_by_interval h ys i first here none = record {
+    first = ap (λ (fs : List FinishedInterval). option_or (option_map finish_time (first_of fs)) (Some i.«end»)) (all_finished h ys first here none);
+    latest = refl;
+  }

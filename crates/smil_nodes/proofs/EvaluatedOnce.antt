@@ -10,13 +10,13 @@ use Rattle.smil_model.specs.document.Closure.{has}
 use Rattle.smil_model.specs.diary.Diary.{History}
 use Rattle.std.proofs.lemmas.List.Folds.{list_any-append}
 use Rattle.smil_model.specs.reach.Reach.{reads}
-use Rattle.smil_laws.specs.Touched.{in_reaches, is_touched_by}
+use Rattle.smil_laws.specs.Touched.{in_reaches}
 use Rattle.smil_laws.proofs.TouchedReached.{reaches_hold}
 use Rattle.smil_graph.specs.Graph.{IsGraphOrder}
 use Rattle.smil_rounds.specs.declared.current_rows.CurrentRow.{CurrentRow}
 use Rattle.smil_rounds.specs.Current.{interval_in}
 use Rattle.smil_rounds.specs.Round.{IsRowEvaluated}
-use Rattle.smil_cells.specs.Evaluated.{AreChanged, IsDue}
+use Rattle.smil_cells.specs.Evaluated.{AreChanged, IsDue, is_noted_by}
 use Rattle.smil_nodes.specs.Work.{HasSame, IsBelow, IsCounted, is_later_reader}
 use Rattle.smil_nodes.specs.Agenda.{IsLeastTaken}
 use Rattle.smil_cells.proofs.DistinctElements.{one_place}
@@ -30,7 +30,7 @@ each_has P (x ∷ xs) f = (f x (or_left _ _ (eq-eqb x x refl)), each_has P xs (�
 module _ (h : History) (moment : ℤ) (nodes : List Node) (log : List LogEntry) (entries : List Entry) (order : List ℕ) (first : List CurrentRow) (start : ℕ) where
   -- nothing is evaluated yet
   pub none_counted : (listed : ℕ → Bool) → ((r : ℕ) → listed r ≡ true → r < length order) → ((r : ℕ) → listed r ≡ true → in_reaches nodes log entries (get_or order r 0) ≡ true)
-      → ((r : ℕ) → listed r ≡ true → is_touched_by nodes log entries (get_or order r 0) ≡ true) → IsCounted h moment nodes log entries order listed first first start start
+      → ((r : ℕ) → listed r ≡ true → is_noted_by nodes log (interval_in first) entries (get_or order r 0) ≡ true) → IsCounted h moment nodes log entries order listed first first start start
   unfolding IsDistinct
   none_counted listed within reached noted = record {
     next = 0;

@@ -14,7 +14,6 @@ use Rattle.smil_model.specs.document.Closure.{has}
 use Rattle.smil_model.specs.diary.Diary.{History, up_to}
 use Rattle.smil_model.specs.interval.Current.{child_end}
 use Rattle.smil_laws.specs.Edited.{IsOrdered}
-use Rattle.smil_laws.specs.Touched.{is_touched_by}
 use Rattle.smil_laws.proofs.RoundsRest.{find-serial}
 use Rattle.smil_graph.specs.Graph.{IsGraphOrder}
 use Rattle.smil_element.specs.declared.endings.Ending.{Ending}
@@ -32,7 +31,9 @@ use Rattle.smil_nodes.specs.Work.{IsBelow, IsUnlisted}
 use Rattle.smil_nodes.proofs.ChildEndsPut.{among_names, among_own, among_stays, names_in, set_own}
 use Rattle.smil_nodes.proofs.TimeChildPlaces.{child_below, family, one_child, rank_of}
 use Rattle.smil_nodes.proofs.EndingPlaces.{home_each, ends_at}
-use Rattle.smil_nodes.proofs.TouchedInReach.{front_whole}
+use Rattle.smil_cells.specs.Evaluated.{is_noted_by}
+use Rattle.smil_nodes.proofs.EntriesNoted.{unnoted_apart_all}
+use Rattle.smil_nodes.proofs.WholeHistory.{front_whole}
 use Rattle.smil_nodes.proofs.ElementRanks.{found_place}
 use Rattle.smil_nodes.proofs.EndsStay.{all_done, end_by_interval, same_end}
 
@@ -261,7 +262,7 @@ children_unlisted nodes order old mid rank e distinct is lt at here implicit off
 
 -- ---- entries are taken in
 
-module _ (past : MarkedHistory) (from : ℕ) (order : List ℕ) (listed : ℕ → Bool) (ordered : IsOrdered past.document.nodes) (distinct : IsApart nat_eq order) (told : (s r : ℕ) → position (λ t. t == s) order ≡ Some r → listed r ≡ is_touched_by past.document.nodes past.log (drop from past.diary) s) where
+module _ (past : MarkedHistory) (from : ℕ) (before : ℕ → Option Interval) (order : List ℕ) (listed : ℕ → Bool) (ordered : IsOrdered past.document.nodes) (distinct : IsApart nat_eq order) (told : (s r : ℕ) → position (λ t. t == s) order ≡ Some r → listed r ≡ is_noted_by past.document.nodes past.log before (drop from past.diary) s) where
   pub known_first : (given : ℕ → Option Interval) (kept : KeptEnds) → AreKnown (front past from) given anyone kept → AreKnown (history_of past) given (IsUnlisted order listed) kept
   known_first given kept are = record {
     homes = are.homes;
@@ -272,6 +273,6 @@ module _ (past : MarkedHistory) (from : ℕ) (order : List ℕ) (listed : ℕ �
         are.right p k e c at_e implicit at_c tt
         ∙ ap Some
         (sym (same_end (front past from) (up_to (front past from) ((front past from).diary ++ drop from past.diary)) given e c
-        (all_done c (front past from) (drop from past.diary) ordered.first there free))
+        (all_done c (front past from) (drop from past.diary) ordered.first there (unnoted_apart_all past.document.nodes ordered.distinct past.log before c.serial (drop from past.diary) free)))
         ∙ ap (λ x. child_end x given e c) (front_whole past from));
   }

@@ -1,9 +1,11 @@
-pub mod TournamentWinner
+pub mod LeastNumbers
+pub mod DueTrees
 pub mod KeyNumbers
 pub mod ElementsCounted
 pub mod RisingRanks
-pub mod TouchedInReach
+pub mod WholeHistory
 pub mod RanksListed
+pub mod CellsListed
 pub mod ElementRanks
 pub mod RankGap
 pub mod IntervalsApart
@@ -19,6 +21,7 @@ pub mod RefreshCalls
 pub mod ChildEndsPut
 pub mod TimeChildPlaces
 pub mod EndsStay
+pub mod EntriesNoted
 pub mod EndingPlaces
 pub mod KnownEnds
 pub mod Marks

@@ -1,32 +1,33 @@
 -- The ranks of elements are listed one after another.
 use Rattle.std.proofs.Common.{◌≡◌, refl, sym, ◌∙◌, ap, subst, ℕ, suc, ◌+◌, ◌<◌, ◌≤◌, List, [], ◌∷◌, length, take, drop, get_or, Option, Some, None, Bool, true, false, arith, inl, inr}
+use mathlib.Core.Bool.{and-false}
 use Rattle.std.specs.Prelude.{◌⊎◌, ◌==◌, ◌||◌, ◌&&◌, cond, filter, is_some, option_map, slice_get}
-use Rattle.std.specs.List.{AllByRecursion, list_any, position}
+use Rattle.std.specs.List.{list_any, position}
 use Rattle.std.proofs.lemmas.Bool.{and_from, and_parts, or_cases, or_left, or_right, eqb-true, eq-eqb}
 use Rattle.std.proofs.lemmas.List.{take_all}
 use Rattle.std.proofs.lemmas.List.Folds.{list_any_more}
 use Rattle.std.proofs.lemmas.List.Quantifiers.{position-Some}
 use Rattle.std.proofs.lemmas.List.Sorted.{list_any-IsPermutation}
-use Rattle.smil_model.specs.declared.diary.Entry.{Entry}
+use Rattle.smil_model.specs.declared.diary.Happening.{Happening}
+use Rattle.smil_model.specs.declared.diary.Happening.TheVariants as happening
 use Rattle.smil_model.specs.declared.diary.LogEntry.{LogEntry}
+use Rattle.smil_model.specs.declared.diary.Step.{Step}
+use Rattle.smil_model.specs.declared.diary.Step.TheVariants.{Began, Repeated, Ended, Cut, Paused, Resumed, Deferred, Passed, Logged}
 use Rattle.smil_model.specs.declared.document.Node.{Node}
-use Rattle.smil_model.specs.document.Document.{descendants, elements, is_below, is_element, is_within, node_at, serials}
+use Rattle.smil_model.specs.declared.interval.Interval.{Interval}
+use Rattle.smil_model.specs.document.Document.{elements, is_below, is_element, is_within, node_at, serials}
 use Rattle.smil_model.specs.document.Closure.{has}
 use Rattle.smil_model.specs.document.Valid.{IsDistinct}
-use Rattle.smil_model.specs.document.Defaults.{items_or}
-use Rattle.smil_model.specs.document.Dependencies.{all_items}
-use Rattle.smil_model.specs.declared.document.Attrs.{Attrs}
-use Rattle.smil_model.specs.reach.Reach.{down_key, is_key_item, key_of, reads, subject_of, waiters}
-use Rattle.smil_laws.specs.Touched.{is_touched, is_touched_by, is_touched_from, is_touched_through}
-use Rattle.smil_laws.proofs.ClosureExact.{has_set}
-use Rattle.smil_laws.proofs.ListMembers.{Differ, differ_all, differ_kept}
+use Rattle.smil_model.specs.reach.Reach.{key_of, logged_key, logged_subject, pressed, reads, subject, subject_of, waiters}
+use Rattle.smil_concern_laws.specs.Concerned.{is_concerned_by_happening, is_concerned_by_logged, is_concerned_by_step, is_concerned_through, is_moved}
+use Rattle.smil_laws.proofs.LineageParents.{same_eqb}
 use Rattle.smil_graph.specs.Graph.{IsGraphOrder, readers_of}
-use Rattle.smil_graph.proofs.DefinitionsByPlace.{all_any}
 use Rattle.smil_graph.proofs.GraphAnswers.{element_at, only_element}
 use Rattle.smil_graph.proofs.LinksAreDependencies.{any_filter, any_there, there_any_item}
 use Rattle.smil_stretch.proofs.NodesAbove.{known_element, lineage_before}
 use Rattle.smil_past.proofs.KnownNodes.{known_node}
-use Rattle.smil_nodes.specs.Noted.{AreNoted, is_self_or_reader}
+use Rattle.smil_cells.specs.Evaluated.{acts_on, is_container_of, is_moved_container}
+use Rattle.smil_nodes.specs.Noted.{AreNoted, has_item, has_moved_item, is_below_or_reader, is_concerned_by_heard, is_self_or_reader}
 use Rattle.smil_model.proofs.FirstPlaces.{position_cons}
 use Rattle.smil_graph.proofs.RowsBuilt.{assoc, right}
 use Rattle.smil_tree.proofs.InsertPlaces.{both_ways}
@@ -130,17 +131,18 @@ module _ (order : List ℕ) where
 
   -- ---- a list one after another
 
-  pub none_taken : (xs old : List ℕ) → AreNoted order (has (take 0 xs)) old old
-  none_taken xs old = none_noted (has (take 0 xs)) old (λ s r at. ap (λ ys. has ys s) (take_none xs))
+  module _ {A : Type 0} (test : ℕ → A → Bool) (xs : List A) where
+    pub none_taken : (old : List ℕ) → AreNoted order (λ s. list_any (test s) (take 0 xs)) old old
+    none_taken old = none_noted (λ s. list_any (test s) (take 0 xs)) old (λ s r at. ap (list_any (test s)) (take_none xs))
 
-  pub more_noted : (xs : List ℕ) (k : ℕ) (old now new : List ℕ) → k < length xs → AreNoted order (has (take k xs)) old now → AreNoted order (λ s. get_or xs k 0 == s) now new → AreNoted order (has (take (k + 1) xs)) old new
-  more_noted xs k old now new l so_far one =
-      noted_by (λ s. has (take k xs) s || (get_or xs k 0 == s)) (has (take (k + 1) xs)) old new
-      (λ s r at. sym (list_any_more (λ y. y == s) xs k 0 l))
-      (noted_then (has (take k xs)) (λ s. get_or xs k 0 == s) old now new so_far one)
+    pub more_noted : (k : ℕ) (d : A) (old now new : List ℕ) → k < length xs → AreNoted order (λ s. list_any (test s) (take k xs)) old now → AreNoted order (λ s. test s (get_or xs k d)) now new → AreNoted order (λ s. list_any (test s) (take (k + 1) xs)) old new
+    more_noted k d old now new l so_far one =
+        noted_by (λ s. list_any (test s) (take k xs) || test s (get_or xs k d)) (λ s. list_any (test s) (take (k + 1) xs)) old new
+        (λ s r at. sym (list_any_more (test s) xs k d l))
+        (noted_then (λ s. list_any (test s) (take k xs)) (λ s. test s (get_or xs k d)) old now new so_far one)
 
-  pub all_noted : (xs : List ℕ) (k : ℕ) (old new : List ℕ) → length xs ≤ k → AreNoted order (has (take k xs)) old new → AreNoted order (has xs) old new
-  all_noted xs k old new l noted = noted_by (has (take k xs)) (has xs) old new (λ s r at. ap (λ ys. has ys s) (take_all k xs l)) noted
+    pub all_noted : (k : ℕ) (old new : List ℕ) → length xs ≤ k → AreNoted order (λ s. list_any (test s) (take k xs)) old new → AreNoted order (λ s. list_any (test s) xs) old new
+    all_noted k old new l noted = noted_by (λ s. list_any (test s) (take k xs)) (λ s. list_any (test s) xs) old new (λ s r at. ap (list_any (test s)) (take_all k xs l)) noted
 
 -- ---- of the elements of a document
 
@@ -190,14 +192,18 @@ module _ (nodes : List Node) (order : List ℕ) (is : IsGraphOrder nodes order) 
           ap (λ b. (x == s) || b) (reads_it s r at_s)
           ∙ sym (ap (λ b. b && ((x == s) || reads nodes x s)) (known x rank at))
 
-  -- what is no element touches nothing
-  pub nothing_within : (x : ℕ) (old : List ℕ) → is_some (position (λ t. t == x) order) ≡ false → AreNoted order (is_touched_from nodes (Some x)) old old
-  nothing_within x old at = none_noted order (is_touched_from nodes (Some x)) old (λ s r at_s. ap (λ b. b && is_touched nodes x s) (is_known x false at))
+  -- an element alone; nothing where there is none
+  pub alone_noted : (x : ℕ) (old new : List ℕ) → AreNoted order (λ s. x == s) old new → AreNoted order (λ s. is_some (node_at (elements nodes) x) && (x == s)) old new
+  alone_noted x old new noted = noted_by order (λ s. x == s) (λ s. is_some (node_at (elements nodes) x) && (x == s)) old new (λ s r at. same s r at (x == s) refl) noted
+    where
+      same : (s r : ℕ) → position (λ t. t == s) order ≡ Some r → (t : Bool) → x == s ≡ t → t ≡ (is_some (node_at (elements nodes) x) && t)
+      same s r at true q = sym (ap (λ b. b && true) (ap (λ y. is_some (node_at (elements nodes) y)) (eqb-true x s q) ∙ known s r at))
+      same s r at false q = sym (and-false (is_some (node_at (elements nodes) x)))
 
 -- ---- the nodes within a node
 
 -- a node with this serial passes
-any_known : (f : Node → Bool) (ns : List Node) (s : ℕ) → is_some (node_at ns s) ≡ true → ((n : Node) → n.serial ≡ s → f n ≡ true) → list_any f ns ≡ true
+pub any_known : (f : Node → Bool) (ns : List Node) (s : ℕ) → is_some (node_at ns s) ≡ true → ((n : Node) → n.serial ≡ s → f n ≡ true) → list_any f ns ≡ true
 any_known f [] s q t = cc
 any_known f (n ∷ ns) s q t = by_test (n.serial == s) refl q (λ r. any_known f ns s r t)
   where
@@ -206,56 +212,11 @@ any_known f (n ∷ ns) s q t = by_test (n.serial == s) refl q (λ r. any_known f
     by_test false e r later = or_right _ _ (later r)
 
 module _ (nodes : List Node) (distinct : IsDistinct nodes) (x s : ℕ) where
-  abbrev of_node : Node → Bool
-  of_node n = is_within nodes x n.serial && is_self_or_reader nodes n.serial s
-
-  abbrev of_reader : Node → Bool
-  of_reader b = is_within nodes x b.serial && reads nodes b.serial s
-
-  to_touched : list_any of_node nodes ≡ true → is_touched nodes x s ≡ true
-  to_touched q = found (any_there of_node nodes q)
-    where
-      found : ((i : ℕ) × (n : Node) × (slice_get nodes i ≡ Some n) × (of_node n ≡ true)) → is_touched nodes x s ≡ true
-      found at =
-          let n = at.1 in
-          let parts = and_parts (is_within nodes x n.serial) (is_self_or_reader nodes n.serial s) at.3 in
-          let others = and_parts (is_some (node_at (elements nodes) n.serial)) ((n.serial == s) || reads nodes n.serial s) parts.1 in
-          by_case at.0 n at.2 parts.0 others.0 (or_cases (n.serial == s) (reads nodes n.serial s) others.1)
-        where
-          by_case : (i : ℕ) (n : Node) → slice_get nodes i ≡ Some n → is_within nodes x n.serial ≡ true → is_some (node_at (elements nodes) n.serial) ≡ true → (n.serial == s ≡ true) ⊎ (reads nodes n.serial s ≡ true) → is_touched nodes x s ≡ true
-          by_case i n here w is (inl e) = or_left _ _ (ap (is_within nodes x) (sym (eqb-true n.serial s e)) ∙ w)
-          by_case i n here w is (inr r) =
-              or_right _ _
-              (any_filter is_element of_reader nodes
-              ∙ there_any_item (λ (b : Node). is_element b && of_reader b) nodes i n here
-              (and_from _ _ (known_element nodes i n distinct here is) (and_from _ _ w r)))
-
-  from_touched : is_some (node_at (elements nodes) s) ≡ true → is_touched nodes x s ≡ true → list_any of_node nodes ≡ true
-  from_touched known_s q = by_case (or_cases (is_within nodes x s) (list_any of_reader (elements nodes)) q)
-    where
-      here : is_within nodes x s ≡ true → (n : Node) → n.serial ≡ s → of_node n ≡ true
-      here w n e =
-          and_from _ _ (ap (is_within nodes x) e ∙ w)
-          (and_from _ _ (ap (λ k. is_some (node_at (elements nodes) k)) e ∙ known_s) (or_left _ _ (eq-eqb n.serial s e)))
-
-      reader : ((i : ℕ) × (n : Node) × (slice_get nodes i ≡ Some n) × ((is_element n && of_reader n) ≡ true)) → list_any of_node nodes ≡ true
-      reader at =
-          let n = at.1 in
-          let parts = and_parts (is_element n) (of_reader n) at.3 in
-          let both = and_parts (is_within nodes x n.serial) (reads nodes n.serial s) parts.1 in
-          let is : is_some (node_at (elements nodes) n.serial) ≡ true =
-          ap is_some (element_at nodes n.serial distinct ∙ ap only_element (node_of_place nodes at.0 n distinct at.2)) ∙ ap (λ t. is_some (cond t (Some n) None)) parts.0 in
-          there_any_item of_node nodes at.0 n at.2 (and_from _ _ both.0 (and_from _ _ is (or_right _ _ both.1)))
-
-      by_case : (is_within nodes x s ≡ true) ⊎ (list_any of_reader (elements nodes) ≡ true) → list_any of_node nodes ≡ true
-      by_case (inl w) = any_known of_node nodes s (known_node nodes s known_s) (here w)
-      by_case (inr r) = reader (any_there (λ (b : Node). is_element b && of_reader b) nodes (sym (any_filter is_element of_reader nodes) ∙ r))
-
   abbrev of_below : Node → Bool
   of_below n = is_below nodes x n.serial && is_self_or_reader nodes n.serial s
 
-  abbrev own_or_below : Bool
-  own_or_below = is_self_or_reader nodes x s || list_any (λ (n : Node). is_self_or_reader nodes n.serial s) (descendants nodes x)
+  abbrev of_reader : Node → Bool
+  of_reader b = is_below nodes x b.serial && reads nodes b.serial s
 
   -- a node within another is that or below it
   is_own_or_below : (i : ℕ) (n : Node) → slice_get nodes i ≡ Some n → is_within nodes x n.serial ≡ ((n.serial == x) || is_below nodes x n.serial)
@@ -264,209 +225,170 @@ module _ (nodes : List Node) (distinct : IsDistinct nodes) (x s : ℕ) where
       ap (list_any (λ (a : Node). a.serial == x)) line
       ∙ ap (λ b. (n.serial == x) || b) (sym (ap (λ (l : List Node). list_any (λ (a : Node). a.serial == x) (drop 1 l)) line))
 
-  own_within : is_some (node_at nodes x) ≡ true → is_within nodes x x ≡ true
-  own_within known_x = from (any_there (λ (n : Node). n.serial == x) nodes (any_known (λ (n : Node). n.serial == x) nodes x known_x (λ n e. eq-eqb n.serial x e)))
+  pub own_or_below : is_some (node_at nodes s) ≡ true → is_within nodes x s ≡ ((s == x) || is_below nodes x s)
+  own_or_below known = from (any_there (λ (n : Node). n.serial == s) nodes (any_known (λ (n : Node). n.serial == s) nodes s known (λ n e. eq-eqb n.serial s e)))
     where
-      from : ((i : ℕ) × (n : Node) × (slice_get nodes i ≡ Some n) × ((n.serial == x) ≡ true)) → is_within nodes x x ≡ true
-      from at =
-          let n = at.1 in
-          ap (is_within nodes x) (sym (eqb-true n.serial x at.3)) ∙ is_own_or_below at.0 n at.2 ∙ or_left _ _ at.3
+      from : ((i : ℕ) × (n : Node) × (slice_get nodes i ≡ Some n) × ((n.serial == s) ≡ true)) → is_within nodes x s ≡ ((s == x) || is_below nodes x s)
+      from at = subst (λ t. is_within nodes x t ≡ ((t == x) || is_below nodes x t)) (eqb-true (at.1).serial s at.3) (is_own_or_below at.0 at.1 at.2)
 
-  to_within : is_some (node_at nodes x) ≡ true → own_or_below ≡ true → list_any of_node nodes ≡ true
-  to_within known_x q = by_case (or_cases (is_self_or_reader nodes x s) (list_any (λ (n : Node). is_self_or_reader nodes n.serial s) (descendants nodes x)) q)
+  below_there : is_below_or_reader nodes x s ≡ list_any of_below nodes
+  below_there = any_filter (λ (n : Node). is_below nodes x n.serial) (λ (n : Node). is_self_or_reader nodes n.serial s) nodes
+
+  to_concerned : is_below_or_reader nodes x s ≡ true → (is_below nodes x s || list_any of_reader (elements nodes)) ≡ true
+  to_concerned q = found (any_there of_below nodes (sym below_there ∙ q))
     where
-      found : ((i : ℕ) × (n : Node) × (slice_get nodes i ≡ Some n) × (of_below n ≡ true)) → list_any of_node nodes ≡ true
+      found : ((i : ℕ) × (n : Node) × (slice_get nodes i ≡ Some n) × (of_below n ≡ true)) → (is_below nodes x s || list_any of_reader (elements nodes)) ≡ true
       found at =
           let n = at.1 in
           let parts = and_parts (is_below nodes x n.serial) (is_self_or_reader nodes n.serial s) at.3 in
-          there_any_item of_node nodes at.0 n at.2 (and_from _ _ (is_own_or_below at.0 n at.2 ∙ or_right _ _ parts.0) parts.1)
-
-      by_case : (is_self_or_reader nodes x s ≡ true) ⊎ (list_any (λ (n : Node). is_self_or_reader nodes n.serial s) (descendants nodes x) ≡ true) → list_any of_node nodes ≡ true
-      by_case (inl own) =
-          any_known of_node nodes x known_x
-          (λ n e. and_from _ _ (ap (is_within nodes x) e ∙ own_within known_x) (ap (λ k. is_self_or_reader nodes k s) e ∙ own))
-      by_case (inr below) =
-          found (any_there of_below nodes (sym (any_filter (λ (n : Node). is_below nodes x n.serial) (λ (n : Node). is_self_or_reader nodes n.serial s) nodes) ∙ below))
-
-  from_within : list_any of_node nodes ≡ true → own_or_below ≡ true
-  from_within q = found (any_there of_node nodes q)
-    where
-      found : ((i : ℕ) × (n : Node) × (slice_get nodes i ≡ Some n) × (of_node n ≡ true)) → own_or_below ≡ true
-      found at =
-          let n = at.1 in
-          let parts = and_parts (is_within nodes x n.serial) (is_self_or_reader nodes n.serial s) at.3 in
-          by_case at.0 n at.2 parts.1 (or_cases (n.serial == x) (is_below nodes x n.serial) (sym (is_own_or_below at.0 n at.2) ∙ parts.0))
+          let others = and_parts (is_some (node_at (elements nodes) n.serial)) ((n.serial == s) || reads nodes n.serial s) parts.1 in
+          by_case (or_cases (n.serial == s) (reads nodes n.serial s) others.1) parts.0 others.0
         where
-          by_case : (i : ℕ) (n : Node) → slice_get nodes i ≡ Some n → is_self_or_reader nodes n.serial s ≡ true → (n.serial == x ≡ true) ⊎ (is_below nodes x n.serial ≡ true) → own_or_below ≡ true
-          by_case i n here reached (inl e) = or_left _ _ (ap (λ k. is_self_or_reader nodes k s) (sym (eqb-true n.serial x e)) ∙ reached)
-          by_case i n here reached (inr below) =
+          by_case : (((at.1).serial == s) ≡ true) ⊎ (reads nodes (at.1).serial s ≡ true) → is_below nodes x (at.1).serial ≡ true → is_some (node_at (elements nodes) (at.1).serial) ≡ true → (is_below nodes x s || list_any of_reader (elements nodes)) ≡ true
+          by_case (inl e) below is = or_left _ _ (ap (is_below nodes x) (sym (eqb-true (at.1).serial s e)) ∙ below)
+          by_case (inr r) below is =
               or_right _ _
-              (any_filter (λ (m : Node). is_below nodes x m.serial) (λ (m : Node). is_self_or_reader nodes m.serial s) nodes
-              ∙ there_any_item of_below nodes i n here (and_from _ _ below reached))
+              (any_filter is_element of_reader nodes
+              ∙ there_any_item (λ (b : Node). is_element b && of_reader b) nodes at.0 at.1 at.2
+              (and_from _ _ (known_element nodes at.0 at.1 distinct at.2 is) (and_from _ _ below r)))
 
-  -- what a node and those below it have listed is what it touches
-  below_is : is_some (node_at nodes x) ≡ true → is_some (node_at (elements nodes) s) ≡ true → own_or_below ≡ is_touched nodes x s
-  below_is known_x known_s =
-      both_ways own_or_below (list_any of_node nodes) (to_within known_x) from_within
-      ∙ both_ways (list_any of_node nodes) (is_touched nodes x s) to_touched (from_touched known_s)
+  from_concerned : is_some (node_at (elements nodes) s) ≡ true → (is_below nodes x s || list_any of_reader (elements nodes)) ≡ true → is_below_or_reader nodes x s ≡ true
+  from_concerned known_s q = by_case (or_cases (is_below nodes x s) (list_any of_reader (elements nodes)) q)
+    where
+      self : is_below nodes x s ≡ true → (n : Node) → n.serial ≡ s → of_below n ≡ true
+      self below n e =
+          and_from _ _ (ap (is_below nodes x) e ∙ below)
+          (and_from _ _ (ap (λ k. is_some (node_at (elements nodes) k)) e ∙ known_s) (or_left _ _ (eq-eqb n.serial s e)))
+
+      reader : ((i : ℕ) × (n : Node) × (slice_get nodes i ≡ Some n) × ((is_element n && of_reader n) ≡ true)) → list_any of_below nodes ≡ true
+      reader at =
+          let n = at.1 in
+          let parts = and_parts (is_element n) (of_reader n) at.3 in
+          let both = and_parts (is_below nodes x n.serial) (reads nodes n.serial s) parts.1 in
+          let is : is_some (node_at (elements nodes) n.serial) ≡ true =
+          ap is_some (element_at nodes n.serial distinct ∙ ap only_element (node_of_place nodes at.0 n distinct at.2)) ∙ ap (λ t. is_some (cond t (Some n) None)) parts.0 in
+          there_any_item of_below nodes at.0 n at.2 (and_from _ _ both.0 (and_from _ _ is (or_right _ _ both.1)))
+
+      by_case : (is_below nodes x s ≡ true) ⊎ (list_any of_reader (elements nodes) ≡ true) → is_below_or_reader nodes x s ≡ true
+      by_case (inl below) = below_there ∙ any_known of_below nodes s (known_node nodes s known_s) (self below)
+      by_case (inr r) = below_there ∙ reader (any_there (λ (b : Node). is_element b && of_reader b) nodes (sym (any_filter is_element of_reader nodes) ∙ r))
+
+  -- an element itself, what is below it, and what reads that
+  pub within_is : is_some (node_at (elements nodes) s) ≡ true → ((s == x) || is_below_or_reader nodes x s) ≡ (is_within nodes x s || list_any of_reader (elements nodes))
+  within_is known_s =
+      ap (λ t. (s == x) || t) (both_ways _ _ to_concerned (from_concerned known_s))
+      ∙ sym (assoc (s == x) (is_below nodes x s) (list_any of_reader (elements nodes)))
+      ∙ ap (λ t. t || list_any of_reader (elements nodes)) (sym (own_or_below (known_node nodes s known_s)))
+
+-- ---- what a step concerns
+
+-- of a step on an element
+module _ (nodes : List Node) (log : List LogEntry) (before : ℕ → Option Interval) (x s : ℕ) where
+  acted_is : (step : Step) → acts_on step ≡ Some x → is_concerned_through nodes log (key_of log step) (subject_of log step) step s ≡ (is_some (node_at (elements nodes) x) && is_concerned_by_step nodes x step s)
+  acted_is (Began who begin) on = let one : who ≡ x = cc in ap (λ y. is_some (node_at (elements nodes) y) && is_concerned_by_step nodes y (Began who begin) s) one
+  acted_is (Repeated who start) on = let one : who ≡ x = cc in ap (λ y. is_some (node_at (elements nodes) y) && is_concerned_by_step nodes y (Repeated who start) s) one
+  acted_is (Ended who end') on = let one : who ≡ x = cc in ap (λ y. is_some (node_at (elements nodes) y) && is_concerned_by_step nodes y (Ended who end') s) one
+  acted_is (Cut who) on = let one : who ≡ x = cc in ap (λ y. is_some (node_at (elements nodes) y) && is_concerned_by_step nodes y (Cut who) s) one
+  acted_is (Paused who) on = let one : who ≡ x = cc in ap (λ y. is_some (node_at (elements nodes) y) && is_concerned_by_step nodes y (Paused who) s) one
+  acted_is (Resumed who) on = let one : who ≡ x = cc in ap (λ y. is_some (node_at (elements nodes) y) && is_concerned_by_step nodes y (Resumed who) s) one
+  acted_is (Deferred who begin) on = let one : who ≡ x = cc in ap (λ y. is_some (node_at (elements nodes) y) && is_concerned_by_step nodes y (Deferred who begin) s) one
+  acted_is (Passed who begin) on = let one : who ≡ x = cc in ap (λ y. is_some (node_at (elements nodes) y) && is_concerned_by_step nodes y (Passed who begin) s) one
+  acted_is (Logged place) on = cc
+
+  -- what it concerns, and the container
+  pub acted_noted : (step : Step) → acts_on step ≡ Some x → (is_concerned_through nodes log (key_of log step) (subject_of log step) step s || is_container_of nodes before step (acts_on step) s) ≡ (is_some (node_at (elements nodes) x) && (is_concerned_by_step nodes x step s || is_moved_container nodes before step x s))
+  acted_noted step on =
+      ap (λ t. t || is_container_of nodes before step (acts_on step) s) (acted_is step on)
+      ∙ ap (λ o. (is_some (node_at (elements nodes) x) && is_concerned_by_step nodes x step s) || is_container_of nodes before step o s) on
+      ∙ both (is_some (node_at (elements nodes) x)) (is_concerned_by_step nodes x step s) (is_moved_container nodes before step x s)
+    where
+      both : (a b c : Bool) → ((a && b) || (a && c)) ≡ (a && (b || c))
+      both true b c = refl
+      both false b c = refl
+
+-- a log entry that is heard
+module _ (nodes : List Node) (log : List LogEntry) (before : ℕ → Option Interval) (place s : ℕ) where
+  abbrev concerned_heard : Option ℕ → Option ℕ → Option LogEntry → Bool
+  concerned_heard (Some key) on o = has (waiters nodes key) s
+  concerned_heard None None o = false
+  concerned_heard None (Some x) o = is_some (node_at (elements nodes) x) && is_concerned_by_logged nodes x o s
+
+  through_heard : (key on : Option ℕ) → is_concerned_through nodes log key on (Logged place) s ≡ concerned_heard key on (slice_get log place)
+  through_heard (Some key) on = refl
+  through_heard None None = refl
+  through_heard None (Some x) = refl
+
+  abbrev concerned_what : Option ℕ → Option ℕ → Happening → Bool
+  concerned_what (Some key) on what = has (waiters nodes key) s
+  concerned_what None None what = false
+  concerned_what None (Some x) what = is_some (node_at (elements nodes) x) && is_concerned_by_happening nodes x what s
+
+  of_entry : (entry : LogEntry) (key on : Option ℕ) → concerned_heard key on (Some entry) ≡ concerned_what key on entry.what
+  of_entry entry (Some key) on = refl
+  of_entry entry None None = refl
+  of_entry entry None (Some x) = refl
+
+  by_what : (what : Happening) → concerned_what (pressed what) (subject what) what ≡ is_concerned_by_heard nodes what s
+  by_what (happening.Event who name) = refl
+  by_what (happening.Media who long) = refl
+  by_what (happening.Key key) = refl
+
+  or_none : (a : Bool) → (a || false) ≡ a
+  or_none true = refl
+  or_none false = refl
+
+  pub heard_is : (entry : LogEntry) → slice_get log place ≡ Some entry → (is_concerned_through nodes log (key_of log (Logged place)) (subject_of log (Logged place)) (Logged place) s || is_container_of nodes before (Logged place) (acts_on (Logged place)) s) ≡ is_concerned_by_heard nodes entry.what s
+  heard_is entry at =
+      or_none (is_concerned_through nodes log (key_of log (Logged place)) (subject_of log (Logged place)) (Logged place) s)
+      ∙ through_heard (logged_key (slice_get log place)) (logged_subject (slice_get log place))
+      ∙ ap (λ o. concerned_heard (logged_key o) (logged_subject o) o) at
+      ∙ of_entry entry (logged_key (Some entry)) (logged_subject (Some entry))
+      ∙ by_what entry.what
+
+-- ---- what an element reaches
 
 -- whether an element is one of these nodes or reads one
 abbrev pub reached_by : List Node → List Node → ℕ → Bool
 reached_by nodes ns s = list_any (λ (n : Node). is_self_or_reader nodes n.serial s) ns
 
--- what a node and those below it reach is what it touches
-pub all_below : (nodes : List Node) (order : List ℕ) → IsGraphOrder nodes order → (tree : List Node) → nodes ≡ tree → IsDistinct tree → (x : ℕ) (old new : List ℕ) → is_some (position (λ t. t == x) order) ≡ true → AreNoted order (λ s. is_self_or_reader nodes x s || reached_by nodes (descendants tree x) s) old new → AreNoted order (is_touched_from nodes (Some x)) old new
-all_below nodes order is tree same distinct x old new at_x =
-    subst (λ (ns : List Node). IsDistinct ns → AreNoted order (λ s. is_self_or_reader nodes x s || reached_by nodes (descendants ns x) s) old new → AreNoted order (is_touched_from nodes (Some x)) old new) same
-    (λ once noted.
-    noted_by order (λ s. is_self_or_reader nodes x s || reached_by nodes (descendants nodes x) s) (is_touched_from nodes (Some x)) old new
-    (λ s r at_s.
-    below_is nodes once x s (node_known nodes order is nodes x refl at_x) (known nodes order is s r at_s)
-    ∙ sym (ap (λ b. b && is_touched nodes x s) (is_known nodes order is x true at_x)))
-    noted)
-    distinct
+module _ (nodes : List Node) (distinct : IsDistinct nodes) (order : List ℕ) (is : IsGraphOrder nodes order) (log : List LogEntry) (before : ℕ → Option Interval) (x : ℕ) (step : Step) (on : acts_on step ≡ Some x) where
+  shuffle : (a c b h : Bool) → (((a || c) || b) || h) ≡ (((a || b) || h) || c)
+  shuffle true c b h = refl
+  shuffle false true true true = refl
+  shuffle false true true false = refl
+  shuffle false true false true = refl
+  shuffle false true false false = refl
+  shuffle false false true h = refl
+  shuffle false false false true = refl
+  shuffle false false false false = refl
 
--- ---- the elements that wait for a key
+  acted_tests : (s r : ℕ) → is_some (node_at (elements nodes) x) ≡ true → position (λ t. t == s) order ≡ Some r → ((((x == s) || is_moved_container nodes before step x s) || is_below_or_reader nodes x s) || has_moved_item nodes x step s) ≡ (is_concerned_through nodes log (key_of log step) (subject_of log step) step s || is_container_of nodes before step (acts_on step) s)
+  acted_tests s r known_x at =
+      let held = is_moved_container nodes before step x s in
+      let moved = has_item nodes (λ e. is_moved nodes e x step) s in
+      ap (λ t. ((t || held) || is_below_or_reader nodes x s) || has_moved_item nodes x step s) (same_eqb x s)
+      ∙ ap (λ t. (((s == x) || held) || is_below_or_reader nodes x s) || (t && moved)) known_x
+      ∙ shuffle (s == x) held (is_below_or_reader nodes x s) moved
+      ∙ ap (λ t. (t || moved) || held) (within_is nodes distinct x s (known nodes order is s r at))
+      ∙ sym (ap (λ t. t && (is_concerned_by_step nodes x step s || held)) known_x)
+      ∙ sym (acted_noted nodes log before x s step on)
 
--- of an element among others, whether it passes the test
-passes_one : (test : Node → Bool) (ns : List Node) (s : ℕ) (e : Node) → Differ ns → node_at ns s ≡ Some e → has (serials (filter test ns)) s ≡ test e
-passes_one test [] s e d at = cc
-passes_one test (n ∷ ns) s e d at = step (n.serial == s) refl at (passes_one test ns s e d.1)
-  where
-    absent : (ms : List Node) → AllByRecursion (λ (m : Node). m.serial == n.serial ≡ false) ms → n.serial ≡ s → has (serials (filter test ms)) s ≡ false
-    absent [] all same = refl
-    absent (m ∷ ms) all same = by_test (test m) (absent ms all.1 same)
-      where
-        by_test : (t : Bool) → has (serials (filter test ms)) s ≡ false → has (serials (cond t (m ∷ filter test ms) (filter test ms))) s ≡ false
-        by_test true rest = ap (λ b. b || has (serials (filter test ms)) s) (ap (λ k. m.serial == k) (sym same) ∙ all.0) ∙ rest
-        by_test false rest = rest
+  -- what a step on an element concerns is listed, and the container of the element
+  pub all_acted : (rank : ℕ) (old one held below new : List ℕ) → position (λ t. t == x) order ≡ Some rank → ((r : ℕ) → has one r ≡ ((r == rank) || has old r)) → AreNoted order (is_moved_container nodes before step x) one held → AreNoted order (is_below_or_reader nodes x) held below → AreNoted order (has_moved_item nodes x step) below new
+      → AreNoted order (λ s. is_concerned_through nodes log (key_of log step) (subject_of log step) step s || is_container_of nodes before step (acts_on step) s) old new
+  all_acted rank old one held below new at put containers belows moves =
+      noted_by order (λ s. (((x == s) || is_moved_container nodes before step x s) || is_below_or_reader nodes x s) || has_moved_item nodes x step s)
+      (λ s. is_concerned_through nodes log (key_of log step) (subject_of log step) step s || is_container_of nodes before step (acts_on step) s) old new
+      (λ s r at_s. acted_tests s r (known nodes order is x rank at) at_s)
+      (noted_then order (λ s. ((x == s) || is_moved_container nodes before step x s) || is_below_or_reader nodes x s) (has_moved_item nodes x step) old below new
+      (noted_then order (λ s. (x == s) || is_moved_container nodes before step x s) (is_below_or_reader nodes x) old held below
+      (noted_then order (λ s. x == s) (is_moved_container nodes before step x) old one held (one_noted order x rank old one at put) containers)
+      belows) moves)
 
-    step : (b : Bool) → n.serial == s ≡ b → cond b (Some n) (node_at ns s) ≡ Some e → (node_at ns s ≡ Some e → has (serials (filter test ns)) s ≡ test e) → has (serials (cond (test n) (n ∷ filter test ns) (filter test ns))) s ≡ test e
-    step true q here rest = let one : n ≡ e = cc in by_test (test n) (ap test one)
-      where
-        by_test : (t : Bool) → t ≡ test e → has (serials (cond t (n ∷ filter test ns) (filter test ns))) s ≡ test e
-        by_test true r = or_left _ _ q ∙ r
-        by_test false r = absent ns d.0 (eqb-true n.serial s q) ∙ r
-    step false q here rest = by_test (test n)
-      where
-        by_test : (t : Bool) → has (serials (cond t (n ∷ filter test ns) (filter test ns))) s ≡ test e
-        by_test true = ap (λ b. b || has (serials (filter test ns)) s) q ∙ rest here
-        by_test false = rest here
-
--- an element waits by its begins and its ends
-pub waits_by_items : (nodes : List Node) (key s : ℕ) (attrs : Attrs) → IsDistinct nodes → Some attrs ≡ option_map (λ (n : Node). n.attrs) (node_at nodes s) → is_some (node_at (elements nodes) s) ≡ true
-    → (list_any (is_key_item key) (items_or [] attrs.begin) || list_any (is_key_item key) (items_or [] attrs.«end»)) ≡ has (waiters nodes key) s
-waits_by_items nodes key s attrs distinct are known_s = by_node (node_at nodes s) refl are
-  where
-    waiting : Node → Bool
-    waiting e = list_any (is_key_item key) (all_items nodes e)
-
-    by_element : (n : Node) (t : Bool) → is_element n ≡ t → node_at nodes s ≡ Some n → node_at (elements nodes) s ≡ Some n
-    by_element n true t at = element_at nodes s distinct ∙ ap only_element at ∙ ap (λ b. cond b (Some n) None) t
-    by_element n false t at =
-        let none : node_at (elements nodes) s ≡ None = element_at nodes s distinct ∙ ap only_element at ∙ ap (λ b. cond b (Some n) None) t in
-        let never : false ≡ true = sym (ap is_some none) ∙ known_s in
-        cc
-
-    by_node : (o : Option Node) → node_at nodes s ≡ o → Some attrs ≡ option_map (λ (n : Node). n.attrs) o → (list_any (is_key_item key) (items_or [] attrs.begin) || list_any (is_key_item key) (items_or [] attrs.«end»)) ≡ has (waiters nodes key) s
-    by_node None at is = cc
-    by_node (Some n) at is =
-        let own : attrs ≡ n.attrs = cc in
-        ap (λ (a : Attrs). list_any (is_key_item key) (items_or [] a.begin) || list_any (is_key_item key) (items_or [] a.«end»)) own
-        ∙ sym (all_any nodes (is_key_item key) refl refl n)
-        ∙ sym (passes_one waiting (elements nodes) s n (differ_kept is_element nodes (differ_all nodes distinct)) (by_element n (is_element n) refl at))
-
-module _ (order : List ℕ) (nodes : List Node) (key : ℕ) where
-  -- one that waits is listed
-  pub waiting_noted : (serial rank : ℕ) (old new : List ℕ) → position (λ t. t == serial) order ≡ Some rank → has (waiters nodes key) serial ≡ true → ((r : ℕ) → has new r ≡ ((r == rank) || has old r)) → AreNoted order (λ s. (serial == s) && has (waiters nodes key) s) old new
-  waiting_noted serial rank old new at waits put =
-      noted_by order (λ s. serial == s) (λ s. (serial == s) && has (waiters nodes key) s) old new
-      (λ s r at_s. same s (serial == s) refl)
-      (one_noted order serial rank old new at put)
-    where
-      same : (s : ℕ) (t : Bool) → serial == s ≡ t → t ≡ (t && has (waiters nodes key) s)
-      same s true e = sym waits ∙ ap (has (waiters nodes key)) (eqb-true serial s e)
-      same s false e = refl
-
-  -- one that doesn't is passed over
-  pub waiting_passed : (serial : ℕ) (old : List ℕ) → has (waiters nodes key) serial ≡ false → AreNoted order (λ s. (serial == s) && has (waiters nodes key) s) old old
-  waiting_passed serial old waits =
-      none_noted order (λ s. (serial == s) && has (waiters nodes key) s) old
-      (λ s r at_s. none s (serial == s) refl)
-    where
-      none : (s : ℕ) (t : Bool) → serial == s ≡ t → (t && has (waiters nodes key) s) ≡ false
-      none s true e = ap (has (waiters nodes key)) (sym (eqb-true serial s e)) ∙ waits
-      none s false e = refl
-
-  -- and so is what has no rank
-  pub unranked_passed : (serial : ℕ) (old : List ℕ) → position (λ t. t == serial) order ≡ None → AreNoted order (λ s. (serial == s) && has (waiters nodes key) s) old old
-  unranked_passed serial old at =
-      none_noted order (λ s. (serial == s) && has (waiters nodes key) s) old
-      (λ s r at_s. none s r at_s (serial == s) refl)
-    where
-      none : (s r : ℕ) → position (λ t. t == s) order ≡ Some r → (t : Bool) → serial == s ≡ t → (t && has (waiters nodes key) s) ≡ false
-      none s r at_s true e =
-          let both : None ≡ Some r = sym at ∙ ap (λ k. position (λ t. t == k) order) (eqb-true serial s e) ∙ at_s in
-          cc
-      none s r at_s false e = refl
-
-  -- those of a list that wait
-  abbrev pub waits_among : List ℕ → ℕ → Bool
-  waits_among xs s = has xs s && has (waiters nodes key) s
-
-  pub none_waiting : (xs old : List ℕ) → AreNoted order (waits_among (take 0 xs)) old old
-  none_waiting xs old = none_noted order (waits_among (take 0 xs)) old (λ s r at. ap (λ ys. has ys s && has (waiters nodes key) s) (take_none xs))
-
-  pub more_waiting : (xs : List ℕ) (k : ℕ) (old now new : List ℕ) → k < length xs → AreNoted order (waits_among (take k xs)) old now → AreNoted order (λ s. (get_or xs k 0 == s) && has (waiters nodes key) s) now new → AreNoted order (waits_among (take (k + 1) xs)) old new
-  more_waiting xs k old now new l so_far one =
-      noted_by order (λ s. waits_among (take k xs) s || ((get_or xs k 0 == s) && has (waiters nodes key) s)) (waits_among (take (k + 1) xs)) old new
-      (λ s r at. apart (has (take k xs) s) (get_or xs k 0 == s) (has (waiters nodes key) s) ∙ ap (λ b. b && has (waiters nodes key) s) (sym (list_any_more (λ y. y == s) xs k 0 l)))
-      (noted_then order (waits_among (take k xs)) (λ s. (get_or xs k 0 == s) && has (waiters nodes key) s) old now new so_far one)
-    where
-      apart : (a b c : Bool) → ((a && c) || (b && c)) ≡ ((a || b) && c)
-      apart true b true = refl
-      apart true true false = refl
-      apart true false false = refl
-      apart false b c = refl
-
-  -- all that wait are in the reach of the key
-  pub all_waiting : (xs : List ℕ) (k : ℕ) (old new : List ℕ) → IsGraphOrder nodes order → xs ≡ down_key nodes key → length xs ≤ k → AreNoted order (waits_among (take k xs)) old new → AreNoted order (has (waiters nodes key)) old new
-  all_waiting xs k old new is reach most noted =
-      noted_by order (waits_among (take k xs)) (has (waiters nodes key)) old new
-      (λ s r at. ap (λ ys. has ys s && has (waiters nodes key) s) (take_all k xs most ∙ reach) ∙ within s r at (has (waiters nodes key) s) refl) noted
-    where
-      within : (s r : ℕ) → position (λ t. t == s) order ≡ Some r → (t : Bool) → has (waiters nodes key) s ≡ t → (has (down_key nodes key) s && t) ≡ t
-      within s r at true q = ap (λ b. b && true) (has_set (reads nodes) (serials (elements nodes)) (waiters nodes key) s (known_serial s (elements nodes) ∙ known nodes order is s r at) q)
-      within s r at false q = none (has (down_key nodes key) s)
-        where
-          none : (b : Bool) → (b && false) ≡ false
-          none true = refl
-          none false = refl
-
--- ---- entries one after another
-
--- whether an entry touches an element
-abbrev is_touched_at : List Node → List LogEntry → ℕ → Entry → Bool
-is_touched_at nodes log s y = is_touched_through nodes (key_of log y.step) (subject_of log y.step) s
-
-touched_any : (nodes : List Node) (log : List LogEntry) (entries : List Entry) (s : ℕ) → is_touched_by nodes log entries s ≡ list_any (is_touched_at nodes log s) entries
-touched_any nodes log [] s = refl
-touched_any nodes log (y ∷ ys) s = ap (λ b. is_touched_at nodes log s y || b) (touched_any nodes log ys s)
-
-module _ (order : List ℕ) (nodes : List Node) (log : List LogEntry) (entries : List Entry) where
-  pub no_entries : (old : List ℕ) → AreNoted order (is_touched_by nodes log (take 0 entries)) old old
-  no_entries old = none_noted order (is_touched_by nodes log (take 0 entries)) old (λ s r at. ap (λ ys. is_touched_by nodes log ys s) (take_none entries))
-
-  pub more_entries : (k : ℕ) (d : Entry) (old now new : List ℕ) → k < length entries → AreNoted order (is_touched_by nodes log (take k entries)) old now → AreNoted order (is_touched_through nodes (key_of log (get_or entries k d).step) (subject_of log (get_or entries k d).step)) now new → AreNoted order (is_touched_by nodes log (take (k + 1) entries)) old new
-  more_entries k d old now new within so_far one =
-      noted_by order (λ s. is_touched_by nodes log (take k entries) s || is_touched_at nodes log s (get_or entries k d)) (is_touched_by nodes log (take (k + 1) entries)) old new
-      (λ s r at.
-      ap (λ b. b || is_touched_at nodes log s (get_or entries k d)) (touched_any nodes log (take k entries) s)
-      ∙ sym (list_any_more (is_touched_at nodes log s) entries k d within)
-      ∙ sym (touched_any nodes log (take (k + 1) entries) s))
-      (noted_then order (is_touched_by nodes log (take k entries)) (is_touched_through nodes (key_of log (get_or entries k d).step) (subject_of log (get_or entries k d).step)) old now new so_far one)
-
-  pub all_entries : (k : ℕ) (old new : List ℕ) → length entries ≤ k → AreNoted order (is_touched_by nodes log (take k entries)) old new → AreNoted order (is_touched_by nodes log entries) old new
-  all_entries k old new most noted =
-      noted_by order (is_touched_by nodes log (take k entries)) (is_touched_by nodes log entries) old new
-      (λ s r at. ap (λ ys. is_touched_by nodes log ys s) (take_all k entries most)) noted
+  -- a step on no element concerns nothing
+  pub none_acted : (old : List ℕ) → position (λ t. t == x) order ≡ None → AreNoted order (λ s. is_concerned_through nodes log (key_of log step) (subject_of log step) step s || is_container_of nodes before step (acts_on step) s) old old
+  none_acted old at =
+      none_noted order (λ s. is_concerned_through nodes log (key_of log step) (subject_of log step) step s || is_container_of nodes before step (acts_on step) s) old
+      (λ s r at_s.
+      acted_noted nodes log before x s step on
+      ∙ ap (λ t. t && (is_concerned_by_step nodes x step s || is_moved_container nodes before step x s)) (is_known nodes order is x false (ap is_some at)))

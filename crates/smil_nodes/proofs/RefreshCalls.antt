@@ -1,13 +1,14 @@
 -- What the calls of a refresh tell, by the document's nodes and its order.
 use Rattle.std.proofs.Common.{◌≡◌, ◌∙◌, ap, sym, subst, ℕ, ◌<◌, List, [], length, drop, Some, true, inl, inr}
-use Rattle.std.specs.Prelude.{◌||◌, ◌&&◌, ◌==◌, ◌⊎◌, not, nat_eq}
+use Rattle.std.specs.Prelude.{◌||◌, ◌&&◌, ◌==◌, ◌⊎◌, Option, not, nat_eq}
 use Rattle.std.specs.List.{IsDistinct, position}
 use Rattle.smil_model.specs.declared.document.Node.{Node}
+use Rattle.smil_model.specs.declared.interval.Interval.{Interval}
 use Rattle.smil_model.specs.document.Closure.{has}
 use Rattle.smil_model.specs.document.Valid as valid
-use Rattle.smil_laws.specs.Touched.{is_touched_by}
 use Rattle.smil_graph.specs.Graph.{IsGraphOrder, OrderedNodes}
 use Rattle.smil_past.specs.Past.{MarkedHistory}
+use Rattle.smil_cells.specs.Evaluated.{is_noted_by}
 use Rattle.smil_nodes.specs.Agenda.{IsLeastTaken}
 use Rattle.smil_nodes.specs.Noted.{AreNoted, NotesEntries}
 use Rattle.smil_nodes.specs.Work.{is_later_reader}
@@ -21,14 +22,14 @@ pub differ_in : (nodes : List Node) (order : List ℕ) → valid.IsDistinct node
 differ_in nodes order distinct is = order_distinct nodes order (elements_distinct nodes distinct) is
 
 -- what the entries have listed
-module _ (graph : OrderedNodes) (past : MarkedHistory) (from : ℕ) (old new order : List ℕ) (kept : order ≡ graph.order) (same : graph.nodes ≡ past.document.nodes) (none : old ≡ []) (notes : NotesEntries graph past from old new) where
-  noted : AreNoted order (is_touched_by past.document.nodes past.log (drop from past.diary)) [] new
+module _ (graph : OrderedNodes) (past : MarkedHistory) (before : ℕ → Option Interval) (from : ℕ) (old new order : List ℕ) (kept : order ≡ graph.order) (same : graph.nodes ≡ past.document.nodes) (none : old ≡ []) (notes : NotesEntries graph past before from old new) where
+  noted : AreNoted order (is_noted_by past.document.nodes past.log before (drop from past.diary)) [] new
   noted =
-      subst (λ o. AreNoted order (is_touched_by past.document.nodes past.log (drop from past.diary)) o new) none
-      (subst (λ ns. AreNoted order (is_touched_by ns past.log (drop from past.diary)) old new) same
-      (subst (λ o. AreNoted o (is_touched_by graph.nodes past.log (drop from past.diary)) old new) (sym kept) notes))
+      subst (λ o. AreNoted order (is_noted_by past.document.nodes past.log before (drop from past.diary)) o new) none
+      (subst (λ ns. AreNoted order (is_noted_by ns past.log before (drop from past.diary)) old new) same
+      (subst (λ o. AreNoted o (is_noted_by graph.nodes past.log before (drop from past.diary)) old new) (sym kept) notes))
 
-  pub noted_told : (s r : ℕ) → position (λ t. t == s) order ≡ Some r → has new r ≡ is_touched_by past.document.nodes past.log (drop from past.diary) s
+  pub noted_told : (s r : ℕ) → position (λ t. t == s) order ≡ Some r → has new r ≡ is_noted_by past.document.nodes past.log before (drop from past.diary) s
   noted_told s r at = noted.listed s r at
 
   pub noted_within : (r : ℕ) → has new r ≡ true → r < length order

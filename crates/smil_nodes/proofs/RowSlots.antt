@@ -22,7 +22,7 @@ use Rattle.smil_rounds.proofs.RowEvaluated.{elements_few}
 use Rattle.smil_rounds.specs.Current.{AreCurrent}
 use Rattle.smil_nodes.specs.Slots.{IsNearKey, earlier_of, least_number, number_of, place_in, repeats}
 use Rattle.smil_nodes.specs.Schedule.{HaveNearKeys, coming_number, slot_of, slots_of}
-use Rattle.smil_nodes.proofs.TournamentWinner.{least_beside, least_of_both}
+use Rattle.smil_nodes.proofs.LeastNumbers.{least_beside, least_of_both}
 use Rattle.smil_nodes.proofs.KeyNumbers.{number_order, place_back, repeat_back}
 use Rattle.smil_nodes.proofs.RowAtElement.{plain_current}
 

@@ -1,5 +1,5 @@
 -- The numbers of keys, and slots that each have a number or none.
-use Rattle.std.specs.Prelude.{◌≡◌, ℕ, ◌+◌, ◌-◌, ◌*◌, ◌/◌, ◌%◌, ◌^◌, ◌<◌, nat_lt, ℤ, pos, neg_ℤ, nat_abs, ◌+ℤ◌, ◌≤ℤ◌, int_lt, List, fold, Bool, true, false, Option, Some, None, ◌==◌, if◌then◌else◌}
+use Rattle.std.specs.Prelude.{◌≡◌, ℕ, ◌+◌, ◌-◌, ◌*◌, ◌/◌, ◌%◌, ◌^◌, ◌<◌, ◌≤◌, nat_lt, ℤ, pos, neg_ℤ, nat_abs, ◌+ℤ◌, ◌≤ℤ◌, int_lt, List, drop, fold, length, slice_index_or, take, Bool, true, false, Option, Some, None, ◌⊎◌, ◌==◌, if◌then◌else◌}
 use Rattle.std.proofs.Common.{refl, sym}
 use Rattle.std.proofs.lemmas.Bool.{eqb-true}
 use Rattle.smil_model.specs.declared.happening.Key.{Key}
@@ -80,3 +80,40 @@ slot_back slot =
       | true ↦ λ e. λ i. record { number = sym (eqb-true slot.number no_number e) i }
       | false ↦ λ e. refl
     ] refl
+
+-- ---- a tree of slots
+
+-- below so many places before the slots
+abbrev pub most_places : ℕ
+most_places = 2 ^ 36
+
+-- what a place has; a place past the last one has none
+abbrev pub slot_at : List (Option ℕ) → ℕ → Option ℕ
+slot_at places p = slice_index_or places p None
+
+-- the places that stand below one
+abbrev pub below : List (Option ℕ) → ℕ → List (Option ℕ)
+below places p = take 8 (drop (8 * p + 1) places)
+
+-- a place has the least number of those below it
+abbrev pub IsLeastBelow : List (Option ℕ) → ℕ → Type 0
+IsLeastBelow places p = slot_at places p ≡ least_number (below places p)
+
+-- below a place stand eight others or none, and each place but place 0 stands below one of those
+-- before the slots
+pub record AreFull (places first : ℕ) : Type 0 where
+  pub groups : ℕ
+  pub full : places ≡ 8 * groups + 1
+  pub some : 0 < groups
+  pub above : groups ≤ first
+  pub from : first ≤ places
+
+-- each of the places before the slots has the least number of those below it
+pub record IsDueTree (places : List (Option ℕ)) (first : ℕ) : Type 0 where
+  pub few : first ≤ most_places
+  pub full : AreFull (length places) first
+  pub decided : (p : ℕ) → p < first → IsLeastBelow places p
+
+-- a place does not stand below another
+abbrev pub IsBesides : ℕ → ℕ → Type 0
+IsBesides place p = (place ≤ 8 * p) ⊎ (8 * p + 8 < place)

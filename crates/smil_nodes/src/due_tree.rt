@@ -1,10 +1,10 @@
-//! A tournament of numbers, and the numbers of keys.
+//! A tree of numbers, the least first, and the numbers of keys.
 
-ghost use Rattle.std.specs.Prelude.{◌≡◌, ◌<◌, ◌≤◌, ◌^◌, None, IfOk, IfSome, if◌then◌else◌, length, replicate, slice_set};
+ghost use Rattle.std.specs.Prelude.{◌≡◌, ◌↔◌, ℕ, ◌+◌, ◌*◌, ◌<◌, ◌≤◌, ◌^◌, None, IfOk, IfSome, IsTrue, drop, if◌then◌else◌, length, replicate, slice_set, take};
 ghost use Rattle.smil_model.specs.Tournaments.{most_items};
-ghost use Rattle.smil_nodes.specs.Slots.{IsNumber, earlier_of, least_number, moment_number, number_of, place_in, repeats, turned};
+ghost use Rattle.smil_nodes.specs.Slots.{AreFull, IsBesides, IsLeastBelow, IsNumber, below, earlier_of, least_number, moment_number, most_places, number_of, place_in, repeats, turned};
 
-use smil_model::{BEGIN_CLASS, Contender, Duplicate, Key, Tournament};
+use smil_model::{BEGIN_CLASS, Duplicate, Key};
 use std::alloc::{AllocError, Global};
 use std::marker::Model;
 
@@ -38,31 +38,14 @@ impl Model for Slot {
     ghost inverse_ok = { λ a h. slot_back a };
 }
 
-impl Contender for Slot {
-    ghost use Rattle.std.specs.Prelude.{None};
-    ghost use Rattle.smil_nodes.specs.Slots.{earlier_of};
-
-    ghost none = { None };
-
-    ghost both = { earlier_of };
-
+impl Slot {
     // A slot without a number.
-    fn none() -> Slot {
+    fn none() -> Slot
+        ensures { result ≡ None }
+    {
         Slot { number: NO_NUMBER }
     }
 
-    // The slot with the lesser number of two.
-    fn with(self, behind: Slot) -> Slot {
-        if behind.is_before(self) { behind } else { self }
-    }
-
-    // Whether the two have the same number, or none.
-    fn is_same(self, other: Slot) -> bool {
-        self.number == other.number
-    }
-}
-
-impl Slot {
     // The slot with a number, or none.
     fn of(number: Option<u64>) -> Slot
         requires { IfSome number IsNumber }
@@ -85,33 +68,55 @@ impl Slot {
         }
     }
 
+    // The slot with the lesser number of two.
+    fn with(self, other: Slot) -> Slot
+        ensures { result ≡ earlier_of self other }
+    {
+        if other.is_before(self) { other } else { self }
+    }
+
     // Whether its number is below that of another.
     fn is_before(self, other: Slot) -> bool
         ensures { earlier_of other self ≡ (if result then self else other) }
     {
         self.number < other.number
     }
+
+    // Whether the two have the same number, or none.
+    fn is_same(self, other: Slot) -> bool
+        ensures { IsTrue result ↔ (self ≡ other) }
+    {
+        self.number == other.number
+    }
 }
 
-/// A fixed number of slots, each with a number or none, under a tournament that the least number
-/// wins; seen as the list of what the slots have.
+/// A fixed number of slots, each with a number or none, below places that have the least number of
+/// eight others each; seen as the list of what the slots have.
 #[derive(Drop)]
 pub struct DueTree {
-    slots: Tournament<Slot>,
+    /// The places that have the least numbers, that of all slots first, and behind them the slots.
+    /// Below the place p stand those from 8 p + 1 to 8 p + 8, or none.
+    places: Vec<Slot>,
+    /// The place of the first slot.
+    first: usize,
 }
 
 impl Model for DueTree {
-    ghost use Rattle.std.specs.Prelude.{List, Option, ℕ};
+    ghost use Rattle.std.specs.Prelude.{List, Option, ℕ, drop};
+    ghost use Rattle.smil_nodes.specs.Slots.{IsDueTree};
 
     ghost Value = { List (Option ℕ) };
 
-    ghost view = { λ a. a.slots };
+    ghost view = { λ a. drop a.first a.places.items };
+
+    ghost invariant = { λ a. IsDueTree a.places.items a.first };
 }
 
 impl Duplicate for DueTree {
     fn copy(&self) -> Result<Self, AllocError> {
         Ok(DueTree {
-            slots: self.slots.copy()?,
+            places: Vec::from_slice(*self.places.allocator(), &self.places)?,
+            first: self.first,
         })
     }
 }
@@ -122,28 +127,83 @@ impl DueTree {
         requires { count ≤ most_items }
         ensures { IfOk result (λ tree. tree ≡ replicate count None) }
     {
-        let slots = Vec::from_elem(alloc, Slot::none(), count)?;
+        let length = 8 * (count / 7 + 1) + 1;
+        let places = Vec::from_elem(alloc, Slot::none(), length)?;
         Ok(DueTree {
-            slots: Tournament::of(alloc, slots.as_slice())?,
+            places,
+            first: length - count,
         })
     }
 
-    /// Puts a number, or none, into a slot. It takes log n steps for n slots, and no memory.
+    /// Puts a number, or none, into a slot. It takes log n steps at most for n slots, a fixed
+    /// number where the slot has it already, and no memory.
     #[inline(never)]
     pub fn set(&mut self, slot: usize, number: Option<u64>)
         requires slot { slot < length self.old }
         requires number { IfSome number IsNumber }
         ensures { self.new ≡ slice_set self.old slot number }
     {
-        self.slots.set(slot, Slot::of(number));
+        let place = self.first + slot;
+        let slot = Slot::of(number);
+        if self.places[place].is_same(slot) {
+            return;
+        }
+        self.places[place] = slot;
+        decide_above(&mut self.places, self.first, place);
     }
 
     /// The least number. None exactly where no slot has one. It takes no memory.
     pub fn least(&self) -> Option<u64>
         ensures { result ≡ least_number self.now }
     {
-        self.slots.top().number()
+        self.places[0].number()
     }
+}
+
+// Decides anew what is above a place, upwards, up to a place that stays as it is.
+#[inline(always)]
+fn decide_above(places: &mut [Slot], first: usize, place: usize)
+    requires few { first ≤ most_places }
+    requires full { AreFull (length places.old) first }
+    requires known { place < length places.old }
+    requires others { (p : ℕ) → p < first → IsBesides place p → IsLeastBelow places.old p }
+    ensures decided { (p : ℕ) → p < first → IsLeastBelow places.new p }
+    ensures kept { drop first places.new ≡ drop first places.old }
+{
+    let mut decided = place;
+    while 0 < decided {
+        decided = (decided - 1) / 8;
+        let least = least_below(places, decided);
+        if places[decided].is_same(least) {
+            return;
+        }
+        places[decided] = least;
+    }
+}
+
+// The least of the eight slots below a place.
+#[inline(always)]
+fn least_below(places: &[Slot], place: usize) -> Slot
+    requires few { place < most_places }
+    requires known { 8 * place + 8 < length places.now }
+    ensures { result ≡ least_number (below places.now place) }
+{
+    let first = 8 * place + 1;
+    let front = least_of_four(places, first);
+    let rest = least_of_four(places, first + 4);
+    front.with(rest)
+}
+
+// The least of four slots, from a place on.
+#[inline(always)]
+fn least_of_four(places: &[Slot], first: usize) -> Slot
+    requires few { first < 8 * most_places }
+    requires known { first + 3 < length places.now }
+    ensures { result ≡ least_number (take 4 (drop first places.now)) }
+{
+    let front = places[first].with(places[first + 1]);
+    let rest = places[first + 2].with(places[first + 3]);
+    front.with(rest)
 }
 
 /// The number of a key, by which keys are compared: the moment, the class, the turn and whether it

@@ -215,10 +215,23 @@ fn ends_of(alloc: Global, tree: &Tree, schedule: &Schedule) -> Result<Vec<Ends>,
     tree.valid();
     let mut ends = Vec::with_capacity(alloc, schedule.rows().len())?;
     for row in schedule.rows() {
-        let children = children_of(alloc, tree, row.serial)?;
-        ends.push(Ends::of(alloc, children, summing_of(tree, row.serial))?)?;
+        ends.push(ends_below(alloc, tree, row.serial)?)?;
     }
     Ok(ends)
+}
+
+// The ends of the time children of an element, none known.
+fn ends_below(alloc: Global, tree: &Tree, who: u32) -> Result<Ends, AllocError>
+    requires { has_element tree.now.nodes who ≡ true }
+    ensures { (e : AnyNode) → node_at (elements tree.now.nodes) who ≡ Some e
+        → IfOk result (λ ends. ends ≡ named_ends tree.now.nodes e) }
+{
+    tree.valid();
+    if tree.time_children(who).is_empty() {
+        return Ends::of(alloc, Vec::new(alloc), None);
+    }
+    let children = children_of(alloc, tree, who)?;
+    Ends::of(alloc, children, summing_of(tree, who))
 }
 
 // By which rule the duration of an element follows from the ends of all its time children, if it

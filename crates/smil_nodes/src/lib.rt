@@ -2,13 +2,13 @@
 //! comes of them, may have changed.
 #![tactic(auto)]
 
+mod concerned;
 mod due_tree;
 mod endings;
 pub mod live;
 mod readers;
 mod schedule;
 mod sources;
-mod touched;
 mod undo;
 
 pub use live::{LiveCells, LiveTable};

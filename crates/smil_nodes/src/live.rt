@@ -21,15 +21,15 @@ ghost use Rattle.smil_nodes.specs.Schedule.{row_put};
 ghost use Rattle.smil_cells.specs.Evaluated.{AreChanged};
 ghost use Rattle.smil_nodes.specs.Work.{AreDueOnce, HasSame};
 
+use super::concerned::note_concerned;
 use super::endings::Endings;
 use super::readers::put_readers;
 use super::schedule::Schedule;
 use super::sources::Sources;
-use super::touched::{Network, note_touched};
 use super::undo::{Note, Undo};
 use smil_cells::{Cells, Since, Table};
 use smil_element::{
-    DueChange, DueChanges, Intervals, Present, Room, ending_of, is_same_comings, is_same_ending,
+    DueChange, DueChanges, Intervals, Present, Room, ending_at, is_same_comings, is_same_ending,
     outcome_of,
 };
 use smil_interval::{Steps, is_same_interval};
@@ -41,8 +41,8 @@ use std::sync::ledger::Ledger;
 /// Cells over the live table.
 pub type LiveCells = Cells<LiveTable>;
 
-/// A table that evaluates, after a happening, the elements that it touches, after the press of a key
-/// those that wait for it, and those that read an element whose interval changed. How many
+/// A table that evaluates, after a happening, the elements that it concerns, the container of an
+/// element whose ends it may change, and those that read an element whose interval changed. How many
 /// evaluations that takes at the most is a clause of `refresh`.
 pub struct LiveTable {
     schedule: Schedule,
@@ -148,8 +148,7 @@ impl Table for LiveTable {
         let graph = past.graph();
         let order = graph.order();
         self.agenda.clear();
-        let network = Network { past, graph };
-        note_touched(self.alloc, &network, since.from, &mut self.agenda)?;
+        note_concerned(past, graph, &self.schedule, since.from, &mut self.agenda)?;
         while let Some(rank) = self.agenda.take_first() {
             let who = order[rank];
             let present = Present { past, who, moment };
@@ -328,6 +327,8 @@ impl LiveTable {
         interval: Option<Interval>,
     ) -> Result<(), AllocError>
         requires element { has_element present.now.past.now.document.nodes present.now.who ≡ true }
+        requires here { slice_get (elements present.now.past.now.document.nodes) index
+            ≡ node_at (elements present.now.past.now.document.nodes) present.now.who }
         requires index { index < length self.old.schedule }
         ensures ended { OnOk result (self.new.endings ≡ put_ending self.old.endings index
             (ending_by (history_of present.now.past.now) interval present.now.who)) }
@@ -339,7 +340,7 @@ impl LiveTable {
         if !self.endings.keeps(index) {
             return Ok(());
         }
-        let ending = ending_of(present.past, present.who, interval);
+        let ending = ending_at(present.past, present.who, index, interval);
         if is_same_ending(self.endings.ending(index), ending) {
             return Ok(());
         }

@@ -19,8 +19,8 @@ use std::alloc::{AllocError, Global};
 use std::marker::Model;
 
 /// The elements of a document in document order, each with its interval, whose numbers are from
-/// -10^12 to 10^12, and what comes of it, with a tournament of the keys of all that comes; seen as
-/// the list of the rows.
+/// -10^12 to 10^12, and what comes of it, with a tree of the keys of all that comes, the least
+/// first; seen as the list of the rows.
 pub struct Schedule {
     known: CurrentRows,
     /// A slot a row: the number of the key of what comes first of it.

@@ -14,11 +14,9 @@ loop-place-preserved c = record {
   only = place_only c.args.start c.loop-place.place c.args.end c.args.places.now c.loop-place.places c.put.new.self c.in_ok-put.ensures.ok c.loop-place.invariant.from c.loop-place-test.true c.loop-place.invariant.only;
 }
 
-pub returns-clause-more : goal.returns-clause-more
-returns-clause-more c = c.loop-place.invariant.more
-
-pub returns-clause-put : goal.returns-clause-put
-returns-clause-put c = λ p from below. let end = c.loop-place-test.false in c.loop-place.invariant.put p from (omega (arith, below, end))
-
-pub returns-clause-only : goal.returns-clause-only
-returns-clause-only c = c.loop-place.invariant.only
+pub returns : goal.returns
+returns c = record {
+  more = c.loop-place.invariant.more;
+  put = λ p from below. let end = c.loop-place-test.false in c.loop-place.invariant.put p from (omega (arith, below, end));
+  only = c.loop-place.invariant.only;
+}

@@ -14,18 +14,18 @@ use Rattle.smil_model.specs.declared.limits.TheConstants as limits
 use Rattle.smil_element.specs.declared.happening.change.DueChange.{DueChange as AnyDueChange}
 use Rattle.smil_element.specs.Parts.{coming_meant, meant}
 use Rattle.smil_element.proofs.PresentMoment.{present_fits}
-use Rattle.smil_cells.specs.CellsState.{CellsState, IsFront, IsNext, IsRefusing, WhereTold, first_at, fresh_since}
+use Rattle.smil_cells.specs.CellsState.{CellsState, IsNext, first_at}
 use Rattle.smil_rounds.specs.Appended.{MayAppendAll}
 use Rattle.smil_cells.specs.Evaluated.{HasEvaluatedBehind}
+use Rattle.smil_cells.specs.Settling.{HasRefused, IsCounted}
 use Rattle.smil_cells.specs.Shown.{TouchesOnly, elements_at, touched_at}
 use Rattle.smil_cells.specs.Standings.{IsSound, IsSoundUnderMark, standing_of}
-use Rattle.smil_cells.proofs.FullDiaryRefusals.{refused_by}
+use Rattle.smil_cells.proofs.FullDiaryRefusals.{for_memory}
 use Rattle.smil_cells.proofs.MarkKept.{kept, refusing, with_entries}
 use Rattle.smil_cells.proofs.CellsGrown.{ComesNext, all_now, came_to, fronted, grows_by, least_fresh, made_now, many_now, may, next_steps, reached_after, some_now, stepped}
-use Rattle.smil_cells.proofs.PlacesPut.{stay_before, stay_listed}
-use Rattle.smil_cells.proofs.GroupEvaluations.{evaluated_behind}
+use Rattle.smil_cells.proofs.PlacesPut.{stay_listed}
+use Rattle.smil_cells.proofs.GroupEvaluations.{evaluated_behind, most_behind}
 use Rattle.smil_cells.proofs.ElementsTouched.{front_of, touches_only}
-use Rattle.smil_cells.proofs.ElementsByPlace.{nothing, still_stands}
 use Rattle.smil_rounds.proofs.GroupMayFollow.{of_element}
 use Rattle.smil_rounds.proofs.MomentEntries.{positive, present_with}
 use Rattle.smil_cells.proofs.cells.Cells.happen.Given.{Over}
@@ -97,38 +97,26 @@ invariant_of-self-in-Err g c =
 pub returns-in-Err-clause-refused : goal.returns-in-Err-clause-refused
 returns-in-Err-clause-refused g c =
     let i = c.self.inside in
-    let e = c.in-Err.ensures.err in
-    subst (λ (s : CellsState). IsRefusing s (standing_of c.append_all.new.past i.moment (Some c.in-Err.fault) i.mark i.touched) c.in-Err.fault) c.self.view_is
-    (refusing i.past c.append_all.new.past (with_entries i.past c.append_all.new.past _ e.new_is) c.self.invariant.lens i.moment i.fault c.in-Err.fault i.mark i.touched i.touched)
-
-pub returns-in-Err-clause-full : goal.returns-in-Err-clause-full
-returns-in-Err-clause-full g c =
-    let i = c.self.inside in
-    let all = goal.at.returns-in-Err-clause-full g c in
+    let all = goal.at.returns-in-Err-clause-refused g c in
     let steps = next_steps i.past i.moment (coming_meant c.args.coming) in
     let e = c.in-Err.ensures.err in
     let at_now = made _ _ c.args.coming _ c.self.invariant.present (c.deref.ensures.value ∙ c.in_ok-fill_group.ensures) in
-    λ f. subst (λ (s : CellsState). IsFront (course_of s.presentation) c.append_all.new.past.diary) c.self.view_is
-    (fronted i.past i.moment (coming_meant c.args.coming) (comes g all.After-len-from) c.append_all.new.past e.some (some_now i.past i.moment steps c.deref.result.now at_now c.append_all.new.past e.some e.new_is) (c.in-Err.ensures.full f).0
-    (many_now i.past i.moment steps c.deref.result.now at_now limits.DIARY_ENTRIES (c.in-Err.ensures.full f).1))
+    subst (λ (s : CellsState). HasRefused (course_of s.presentation) s (standing_of c.append_all.new.past i.moment (Some c.in-Err.fault) i.mark i.touched) c.in-Err.fault) c.self.view_is
+    (record {
+      refusing = refusing i.past c.append_all.new.past (with_entries i.past c.append_all.new.past _ e.new_is) c.self.invariant.lens i.moment i.fault c.in-Err.fault i.mark i.touched i.touched;
+      full = λ f.
+          fronted i.past i.moment (coming_meant c.args.coming) (comes g all.After-len-from) c.append_all.new.past e.some (some_now i.past i.moment steps c.deref.result.now at_now c.append_all.new.past e.some e.new_is) (c.in-Err.ensures.full f).0
+          (many_now i.past i.moment steps c.deref.result.now at_now limits.DIARY_ENTRIES (c.in-Err.ensures.full f).1);
+    })
 
-pub invariant_of-self-in_err-touch : goal.invariant_of-self-in_err-touch
-invariant_of-self-in_err-touch g c =
-    let i = c.self.inside in
-    keeps g (goal.at.invariant_of-self-in_err-touch g c).After-possible (g.T.Table.is_current i.table) (g.T.Table.is_marked i.table) (g.T.Table.has_mark i.table) (Some book_fault.Memory) i.touched (λ h now k. k) refl (λ never. cc)
-
-pub refresh-requires-clause-moment : goal.refresh-requires-clause-moment
-refresh-requires-clause-moment g c =
-    let all = goal.at.refresh-requires-clause-moment g c in
+pub take_entries-requires-clause-moment : goal.take_entries-requires-clause-moment
+take_entries-requires-clause-moment g c =
+    let all = goal.at.take_entries-requires-clause-moment g c in
     subst (λ (v : ℤ). past_of.IsPresent c.append_all.new.past v) (sym (whole _ _ c.self.invariant.present)) (present g all.After-possible)
 
-pub invariant_of-self-in_err-refresh : goal.invariant_of-self-in_err-refresh
-invariant_of-self-in_err-refresh g c =
-    keeps g (goal.at.invariant_of-self-in_err-refresh g c).After-possible (g.T.Table.is_current c.refresh.new.self) (g.T.Table.is_marked c.refresh.new.self) (g.T.Table.has_mark c.refresh.new.self) (Some book_fault.Memory) c.self.inside.touched c.refresh.ensures.marked c.refresh.ensures.has_mark (λ never. cc)
-
-pub invariant_of-self-in_err-put_nodes : goal.invariant_of-self-in_err-put_nodes
-invariant_of-self-in_err-put_nodes g c =
-    keeps g (goal.at.invariant_of-self-in_err-put_nodes g c).After-possible (g.T.Table.is_current c.refresh.new.self) (g.T.Table.is_marked c.refresh.new.self) (g.T.Table.has_mark c.refresh.new.self) (Some book_fault.Memory) c.self.inside.touched c.refresh.ensures.marked c.refresh.ensures.has_mark (λ never. cc)
+pub invariant_of-self-in_err-take_entries : goal.invariant_of-self-in_err-take_entries
+invariant_of-self-in_err-take_entries g c =
+    keeps g (goal.at.invariant_of-self-in_err-take_entries g c).After-possible (g.T.Table.is_current c.take_entries.new.table) (g.T.Table.is_marked c.take_entries.new.table) (g.T.Table.has_mark c.take_entries.new.table) (Some book_fault.Memory) c.self.inside.touched c.take_entries.ensures.marked c.take_entries.ensures.has_mark (λ never. cc)
 
 pub invariant_of-self-2 : goal.invariant_of-self-2
 invariant_of-self-2 g c =
@@ -136,10 +124,10 @@ invariant_of-self-2 g c =
     let all = goal.at.invariant_of-self-2 g c in
     let is = comes g all.After-len-from in
     let now = whole _ _ c.self.invariant.present ∙ positive i.moment c.self.invariant.present.from in
-    keeps g all.After-possible (g.T.Table.is_current c.refresh.new.self) (g.T.Table.is_marked c.refresh.new.self) (g.T.Table.has_mark c.refresh.new.self) None i.touched c.refresh.ensures.marked c.refresh.ensures.has_mark
-    (λ e. subst (λ (x : MarkedHistory). g.T.Table.is_current c.refresh.new.self (past_of.history_of x) (pos (nat_abs i.moment)) → IsSound (g.T.Table.is_current c.refresh.new.self) (standing_of x i.moment None i.mark i.touched)) (sym (grown g all.After-possible))
+    keeps g all.After-possible (g.T.Table.is_current c.take_entries.new.table) (g.T.Table.is_marked c.take_entries.new.table) (g.T.Table.has_mark c.take_entries.new.table) None i.touched c.take_entries.ensures.marked c.take_entries.ensures.has_mark
+    (λ e. subst (λ (x : MarkedHistory). g.T.Table.is_current c.take_entries.new.table (past_of.history_of x) (pos (nat_abs i.moment)) → IsSound (g.T.Table.is_current c.take_entries.new.table) (standing_of x i.moment None i.mark i.touched)) (sym (grown g all.After-possible))
     (λ current. record { state = is.state; reached = reached_after i.past i.moment (coming_meant c.args.coming) is; current = current })
-    (subst (λ (v : ℤ). g.T.Table.is_current c.refresh.new.self (past_of.history_of c.append_all.new.past) v) now c.in_ok-refresh.ensures.current))
+    (subst (λ (v : ℤ). g.T.Table.is_current c.take_entries.new.table (past_of.history_of c.append_all.new.past) v) now c.in_ok-take_entries.ensures.current))
 
 pub returns-clause-next : goal.returns-clause-next
 returns-clause-next g c =
@@ -149,55 +137,13 @@ returns-clause-next g c =
     let next = coming_meant c.args.coming in
     let new = c.append_all.new.past in
     let same = ap (λ (x : MarkedHistory). x.document) (grown g all.After-possible) in
+    let put = c.in_ok-take_entries.ensures.put in
     let before = elements_at i.past.document.nodes c.args.places.now in
-    let mid = elements_at new.document.nodes c.touch.new.touched in
-    let after = elements_at new.document.nodes c.put_nodes.new.places in
+    let after = elements_at new.document.nodes c.take_entries.new.places in
     subst (λ (s : CellsState). IsNext (touched_at s c.args.places.now) (standing_of new i.moment None i.mark after)) c.self.view_is
-    (came_to i.past i.moment _ (next_steps i.past i.moment next) i.fault i.mark before mid after c.len-from.result (whole _ _ c.self.invariant.present ∙ positive i.moment c.self.invariant.present.from) (c.len-from.ensures.value ∙ ap (λ (l : List AnyEntry). length l) c.book.ensures)
-    is.state.document.numbered c.self.invariant.lens (stepped i.past i.moment next is) (grows_by i.past i.moment next is) (still_stands new.document.nodes c.touch.new.touched c.put_nodes.new.places c.in_ok-put_nodes.ensures.more)
-    new (grown g all.After-possible) c.possible.ensures.few (stay_listed i.past.document new same c.args.places.now c.touch.new.touched c.in_ok-touch.ensures.more) c.in_ok-touch.ensures.shown
-    (stay_before _ c.len-from.result c.refresh.new.changed c.put_nodes.new.places new c.tree.result.now c.tree.ensures c.in_ok-put_nodes.ensures.put c.in_ok-refresh.ensures.changed))
-
-pub returns-clause-least : goal.returns-clause-least
-returns-clause-least g c =
-    let i = c.self.inside in
-    let all = goal.at.returns-clause-least g c in
-    subst (λ (s : CellsState). WhereTold g.T.Table.counts (fresh_since s (standing_of c.append_all.new.past i.moment None i.mark i.touched) ≤ c.refresh.new.steps - c.args.steps.now)) c.self.view_is
-    (least_fresh i.past i.moment _ (next_steps i.past i.moment (coming_meant c.args.coming)) i.fault i.mark i.touched i.touched i.touched c.len-from.result (whole _ _ c.self.invariant.present ∙ positive i.moment c.self.invariant.present.from) (c.len-from.ensures.value ∙ ap (λ (l : List AnyEntry). length l) c.book.ensures)
-    g.T.Table.counts (c.refresh.new.steps - c.args.steps.now) c.append_all.new.past (grown g all.After-possible) c.in_ok-refresh.ensures.least)
-
-pub returns-in_err-refresh-clause-refused : goal.returns-in_err-refresh-clause-refused
-returns-in_err-refresh-clause-refused g c =
-    let i = c.self.inside in
-    let before = standing_of i.past i.moment i.fault i.mark i.touched in
-    let new = standing_of c.append_all.new.past i.moment (Some book_fault.Memory) i.mark i.touched in
-    subst (λ (s : CellsState). IfErr c.from_residual-in_err-refresh.result (IsRefusing s new)) c.self.view_is
-    (refused_by c.from_residual-in_err-refresh.result (λ (f : AnyFault). f ≡ book_fault.Memory) (IsRefusing before new)
-    (λ f p. subst (λ (k : AnyFault). IsRefusing before new k) (sym p)
-    (refusing i.past c.append_all.new.past (with_entries i.past c.append_all.new.past _ c.in_default.ensures.ok) c.self.invariant.lens i.moment i.fault book_fault.Memory i.mark i.touched i.touched))
-    c.from_residual-in_err-refresh.ensures.1)
-
-pub returns-in_err-put_nodes-clause-refused : goal.returns-in_err-put_nodes-clause-refused
-returns-in_err-put_nodes-clause-refused g c =
-    let i = c.self.inside in
-    let before = standing_of i.past i.moment i.fault i.mark i.touched in
-    let new = standing_of c.append_all.new.past i.moment (Some book_fault.Memory) i.mark i.touched in
-    subst (λ (s : CellsState). IfErr c.from_residual-in_err-put_nodes.result (IsRefusing s new)) c.self.view_is
-    (refused_by c.from_residual-in_err-put_nodes.result (λ (f : AnyFault). f ≡ book_fault.Memory) (IsRefusing before new)
-    (λ f p. subst (λ (k : AnyFault). IsRefusing before new k) (sym p)
-    (refusing i.past c.append_all.new.past (with_entries i.past c.append_all.new.past _ c.in_default.ensures.ok) c.self.invariant.lens i.moment i.fault book_fault.Memory i.mark i.touched i.touched))
-    c.from_residual-in_err-put_nodes.ensures.1)
-
-pub returns-clause-evaluated : goal.returns-clause-evaluated
-returns-clause-evaluated g c =
-    let i = c.self.inside in
-    let all = goal.at.returns-clause-evaluated g c in
-    let new = c.append_all.new.past in
-    let begins = c.len-from.ensures.value ∙ ap (λ (l : List AnyEntry). length l) c.book.ensures in
-    subst (λ (s : CellsState). WhereTold g.T.Table.counts (HasEvaluatedBehind s (standing_of new i.moment None i.mark i.touched) (c.refresh.new.steps - c.args.steps.now))) c.self.view_is
-    (evaluated_behind i.past new i.moment _ i.fault i.mark i.touched i.touched c.len-from.result (c.refresh.new.steps - c.args.steps.now) begins
-    (front_of i.past.diary _ new.diary c.len-from.result (ap (λ (x : MarkedHistory). x.diary) (grown g all.After-possible)) begins)
-    (whole _ _ c.self.invariant.present ∙ positive i.moment c.self.invariant.present.from) g.T.Table.counts c.in_ok-refresh.ensures.evaluated)
+    (came_to i.past i.moment _ (next_steps i.past i.moment next) i.fault i.mark before after c.len-from.result (whole _ _ c.self.invariant.present ∙ positive i.moment c.self.invariant.present.from) (c.len-from.ensures.value ∙ ap (λ (l : List AnyEntry). length l) c.book.ensures)
+    is.state.document.numbered c.self.invariant.lens (stepped i.past i.moment next is) (grows_by i.past i.moment next is)
+    new (grown g all.After-possible) c.possible.ensures.few (stay_listed i.past.document new same c.args.places.now c.take_entries.new.places put.more) put.shown put.others)
 
 pub returns-clause-only : goal.returns-clause-only
 returns-clause-only g c =
@@ -205,9 +151,38 @@ returns-clause-only g c =
     let all = goal.at.returns-clause-only g c in
     let new = c.append_all.new.past in
     let begins = c.len-from.ensures.value ∙ ap (λ (l : List AnyEntry). length l) c.book.ensures in
-    subst (λ (s : CellsState). TouchesOnly (touched_at s c.args.places.now) (touched_at (standing_of new i.moment None i.mark i.touched) c.put_nodes.new.places)) c.self.view_is
+    subst (λ (s : CellsState). TouchesOnly (touched_at s c.args.places.now) (touched_at (standing_of new i.moment None i.mark i.touched) c.take_entries.new.places)) c.self.view_is
     (touches_only i.past new i.moment _ i.fault i.mark i.touched c.len-from.result (ap (λ (x : MarkedHistory). x.document) (grown g all.After-possible)) begins
     (front_of i.past.diary _ new.diary c.len-from.result (ap (λ (x : MarkedHistory). x.diary) (grown g all.After-possible)) begins)
     (whole _ _ c.self.invariant.present ∙ positive i.moment c.self.invariant.present.from)
-    c.args.places.now c.touch.new.touched c.put_nodes.new.places _ c.refresh.new.changed i.touched c.tree.result.now c.tree.ensures (c.cut_back.ensures ∙ nothing i.changed)
-    c.in_ok-touch.ensures.only c.in_ok-put_nodes.ensures.only c.in_ok-refresh.ensures.told)
+    c.args.places.now c.take_entries.new.places i.touched c.in_ok-take_entries.ensures.put)
+
+pub returns-in_err-take_entries-clause-refused : goal.returns-in_err-take_entries-clause-refused
+returns-in_err-take_entries-clause-refused g c =
+    let i = c.self.inside in
+    let before = standing_of i.past i.moment i.fault i.mark i.touched in
+    let new = standing_of c.append_all.new.past i.moment (Some book_fault.Memory) i.mark i.touched in
+    subst (λ (s : CellsState). IfErr c.from_residual-in_err-take_entries.result (HasRefused (course_of s.presentation) s new)) c.self.view_is
+    (for_memory c.from_residual-in_err-take_entries.result (course_of before.presentation) before new
+    (λ f. refusing i.past c.append_all.new.past (with_entries i.past c.append_all.new.past _ c.in_default.ensures.ok) c.self.invariant.lens i.moment i.fault f i.mark i.touched i.touched)
+    c.from_residual-in_err-take_entries.ensures.1)
+
+pub returns-clause-evaluated : goal.returns-clause-evaluated
+returns-clause-evaluated g c =
+    let i = c.self.inside in
+    let all = goal.at.returns-clause-evaluated g c in
+    let new = c.append_all.new.past in
+    let told = c.in_ok-take_entries.ensures.evaluated in
+    let n = c.take_entries.new.steps - c.args.steps.now in
+    let whole_now = whole _ _ c.self.invariant.present ∙ positive i.moment c.self.invariant.present.from in
+    let begins = c.len-from.ensures.value ∙ ap (λ (l : List AnyEntry). length l) c.book.ensures in
+    let is = grown g all.After-possible in
+    subst (λ (s : CellsState). IsCounted g.T.Table.counts HasEvaluatedBehind s (standing_of new i.moment None i.mark i.touched) n) c.self.view_is
+    (record {
+      most = most_behind i.past new i.moment i.fault i.mark i.touched i.touched c.len-from.result n begins (ap (λ (x : MarkedHistory). x.document) is) g.T.Table.counts told.most;
+      least = least_fresh i.past i.moment _ (next_steps i.past i.moment (coming_meant c.args.coming)) i.fault i.mark i.touched i.touched c.len-from.result whole_now begins g.T.Table.counts n new is told.least;
+      evaluated =
+          evaluated_behind i.past new i.moment _ i.fault i.mark i.touched i.touched c.len-from.result n begins
+          (front_of i.past.diary _ new.diary c.len-from.result (ap (λ (x : MarkedHistory). x.diary) is) begins)
+          whole_now g.T.Table.counts told.evaluated;
+    })

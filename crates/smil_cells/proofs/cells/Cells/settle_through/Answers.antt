@@ -1,13 +1,17 @@
-use Rattle.std.proofs.Common.{refl, sym, ◌∙◌, ap, subst, arith, ◌≡◌, ◌+◌, ◌-◌, ◌≤◌, List, ◌≤ℤ◌, ◌+ℤ◌, ℕ, ℤ, pos, nat_abs, None, w64, to_z, of_z}
+use Rattle.std.proofs.Common.{refl, sym, ◌∙◌, ap, subst, arith, ◌≡◌, ◌+◌, ◌-◌, ◌≤◌, List, length, drop, ◌≤ℤ◌, ◌+ℤ◌, ℕ, ℤ, pos, nat_abs, None, w64, to_z, of_z}
 use Rattle.smil_model.specs.declared.times.TheConstants.{HORIZON as the_horizon}
-use Rattle.smil_model.specs.shown.Orders.{Presentation}
+use Rattle.smil_model.specs.declared.diary.Entry.{Entry}
+use Rattle.smil_model.specs.declared.diary.LogEntry.{LogEntry}
+use Rattle.smil_model.specs.reach.Bounds.{reaches}
+use Rattle.smil_model.specs.shown.Orders.{Presentation, as_of, course_of}
 use Rattle.smil_cells.specs.CellsState.{NothingBefore, CellsState, WhereTold}
 use Rattle.std.proofs.lemmas.Int.{to_z-of_z}
-use Rattle.smil_cells.proofs.SettlingSteps.{IsRest, rested, below, sooner, no_fewer, begun, nothing_reached, nothing_fresh, onward, fewer_free, reached_on, fresh_on, front_later, touched_anew, touched_refused, goes_on, goes_on_new, stay_touched, fresh_at_rest}
+use Rattle.smil_cells.proofs.SettlingSteps.{IsRest, rested, below, sooner, no_fewer, begun, nothing_reached, nothing_fresh, onward, fewer_free, reached_on, fresh_on, front_later, touched_anew, touched_refused, goes_on, stay_touched, fresh_at_rest}
 use Rattle.smil_model.specs.document.Document.{Document}
 use Rattle.smil_model.specs.document.Valid.{IsNumberedTree}
 use Rattle.smil_model.specs.document.Closure.{has}
 use Rattle.smil_diary.specs.declared.fault.BookFault.TheVariants.{Memory}
+use Rattle.smil_cells.proofs.FullDiaryRefusals.{for_memory}
 use Rattle.smil_cells.specs.Shown.{elements_at, touched_at}
 use Rattle.smil_cells.specs.Standings.{standing_of}
 use Rattle.smil_cells.proofs.PlacesPut.{passed_at}
@@ -53,26 +57,34 @@ loop-coming-preserved g c =
       refl,
       v.2,
       no_fewer a c.loop-coming.steps c.happen.new.steps v.3 e.counted,
-      reached_on old s t u until v.0 passed c.come_to.ensures.within e.next a c.loop-coming.steps c.happen.new.steps g.T.Table.counts v.3 e.counted v.4 e.most,
-      fresh_on old s t u until v.0 passed c.come_to.ensures.within e.next a c.loop-coming.steps c.happen.new.steps g.T.Table.counts v.3 e.counted v.5 e.least,
-      evaluated_on old s t u until v.0 passed e.next a c.loop-coming.steps c.happen.new.steps g.T.Table.counts v.3 e.counted v.6 e.evaluated,
+      reached_on old s t u until v.0 passed c.come_to.ensures.within e.next a c.loop-coming.steps c.happen.new.steps g.T.Table.counts v.3 e.counted v.4 e.evaluated.most,
+      fresh_on old s t u until v.0 passed c.come_to.ensures.within e.next a c.loop-coming.steps c.happen.new.steps g.T.Table.counts v.3 e.counted v.5 e.evaluated.least,
+      evaluated_on old s t u until v.0 passed e.next a c.loop-coming.steps c.happen.new.steps g.T.Table.counts v.3 e.counted v.6 e.evaluated.evaluated,
       touched_on old s t u until v.0 passed e.next v.7 e.only,
     )
 
-pub returns-in-Err-clause-full : goal.returns-in-Err-clause-full
-returns-in-Err-clause-full g c =
+pub returns-in-Err-clause-refused : goal.returns-in-Err-clause-refused
+returns-in-Err-clause-refused g c =
     let v = c.loop-coming.invariant in
+    let passed = c.come_to.ensures.passed in
     let p = c.come_to.new.self.presentation in
     let q = c.args.self.now.presentation in
-    let same = c.come_to.ensures.passed.presentation_is in
-    let d : p.document ≡ q.document = ap (λ (x : Presentation). x.document) same ∙ ap (λ (x : Presentation). x.document) v.0.presentation_is in
-    let l : p.log ≡ q.log = ap (λ (x : Presentation). x.log) same ∙ ap (λ (x : Presentation). x.log) v.0.presentation_is in
-    λ e.
-    front_later c.reaches_further.ensures p q (nat_abs c.args.until) c.happen.new.self.diary
-    (subst (λ (x : Document). IsNumberedTree x) (sym d) (subst (λ (s : CellsState). IsNumberedTree s.presentation.document) c.self.view_is c.possible.ensures.valid.numbered))
-    d l
-    (below p.now c.args.until (subst (λ (x : ℤ). pos p.now ≤ℤ x) (to_z-of_z w64 c.args.until c.ranges.until) c.come_to.ensures.within))
-    (c.in-Err.ensures.full e)
+    let d : p.document ≡ q.document = ap (λ (x : Presentation). x.document) passed.presentation_is ∙ ap (λ (x : Presentation). x.document) v.0.presentation_is in
+    let l : p.log ≡ q.log = ap (λ (x : Presentation). x.log) passed.presentation_is ∙ ap (λ (x : Presentation). x.log) v.0.presentation_is in
+    let refused = c.in-Err.ensures.refused in
+    record {
+      refusing = record {
+        fault_is = refused.refusing.fault_is;
+        document = refused.refusing.document ∙ d;
+        marked = refused.refusing.marked ∙ (passed.marked ∙ v.0.marked);
+      };
+      full = λ e.
+          front_later c.reaches_further.ensures p q (nat_abs c.args.until) c.happen.new.self.diary
+          (subst (λ (x : Document). IsNumberedTree x) (sym d) (subst (λ (s : CellsState). IsNumberedTree s.presentation.document) c.self.view_is c.possible.ensures.valid.numbered))
+          d l
+          (below p.now c.args.until (subst (λ (x : ℤ). pos p.now ≤ℤ x) (to_z-of_z w64 c.args.until c.ranges.until) c.come_to.ensures.within))
+          (refused.full e);
+    }
 
 pub invariant_of-self : goal.invariant_of-self
 invariant_of-self g c =
@@ -90,10 +102,18 @@ pass_to-requires-clause-quiet g c =
     let until = to_z w64 (of_z w64 c.args.until) in
     λ x e. sooner until x.key.value (subst (λ (s : CellsState). NothingBefore s (until +ℤ pos 1)) (sym c.self-2.view_is) c.in_default.ensures.none x e)
 
-pub returns-clause-settled : goal.returns-clause-settled
-returns-clause-settled g c =
-    let until = to_z w64 (of_z w64 c.args.until) in
-    c.pass_to.ensures.ended (λ x e. subst (λ (s : CellsState). NothingBefore s (until +ℤ pos 1)) (sym c.self-2.view_is) c.in_default.ensures.none x e)
+pub returns-in_err-take_elements-clause-refused : goal.returns-in_err-take_elements-clause-refused
+returns-in_err-take_elements-clause-refused g c =
+    let i = c.self-2.inside in
+    let v = c.loop-coming.invariant in
+    let q = c.args.self.now.presentation in
+    for_memory c.from_residual.result (course_of (as_of q (nat_abs c.args.until))) c.args.self.now (standing_of i.past i.moment i.fault i.mark c.take_elements.new.list)
+    (λ f. record {
+      fault_is = refl;
+      document = ap (λ (s : CellsState). s.presentation.document) c.self-2.view_is ∙ ap (λ (x : Presentation). x.document) v.0.presentation_is;
+      marked = ap (λ (s : CellsState). s.marked) c.self-2.view_is ∙ v.0.marked;
+    })
+    c.from_residual.ensures.1
 
 at_rest : (g : Over) (c : goal.After-pass_to g) → IsRest (touched_at c.loop-coming.self c.loop-coming.places) c.pass_to.new.self
 at_rest g c =
@@ -103,27 +123,43 @@ at_rest g c =
     (ap (λ (s : CellsState). touched_at s places) c.self-2.view_is) c.pass_to.ensures.moved (ap (λ (x : Document). x.nodes) c.tree.ensures) c.in_ok-take_elements.ensures.order
     (λ e here. ap (λ (l : List ℕ). has l e.serial) (c.in_ok-take_elements.ensures.taken ∙ ap (λ (x : Document). elements_at x.nodes places) c.tree.ensures)) c.pass_to.ensures.same
 
-pub returns-clause-goes_on : goal.returns-clause-goes_on
-returns-clause-goes_on g c = goes_on_new c.args.self.now c.args.places c.pass_to.new.self (goes_on (touched_at c.args.self.now c.args.places) (touched_at c.loop-coming.self c.loop-coming.places) c.pass_to.new.self (to_z w64 (of_z w64 c.args.until)) c.loop-coming.invariant.0 (at_rest g c))
-
-pub returns-clause-more : goal.returns-clause-more
-returns-clause-more g c = stay_touched (touched_at c.args.self.now c.args.places) (touched_at c.loop-coming.self c.loop-coming.places) c.pass_to.new.self (to_z w64 (of_z w64 c.args.until)) c.loop-coming.invariant.0 (at_rest g c)
-
-pub returns-clause-least : goal.returns-clause-least
-returns-clause-least g c =
-    subst (λ (n : ℕ). WhereTold g.T.Table.counts (n ≤ c.loop-coming.steps - c.args.steps.now))
-    (sym (fresh_at_rest (touched_at c.args.self.now c.args.places) (touched_at c.loop-coming.self c.loop-coming.places) c.pass_to.new.self (to_z w64 (of_z w64 c.args.until)) c.loop-coming.invariant.0 (at_rest g c)))
-    c.loop-coming.invariant.5
-
-pub returns-clause-evaluated : goal.returns-clause-evaluated
-returns-clause-evaluated g c =
+pub returns-clause-settled : goal.returns-clause-settled
+returns-clause-settled g c =
+    let v = c.loop-coming.invariant in
     let old = touched_at c.args.self.now c.args.places in
     let s = touched_at c.loop-coming.self c.loop-coming.places in
     let t = c.pass_to.new.self in
-    let n = c.loop-coming.steps - c.args.steps.now in
+    let until = to_z w64 (of_z w64 c.args.until) in
+    let q = c.args.self.now.presentation in
     let rest = at_rest g c in
-    evaluated_from old c.args.self.now t g.T.Table.counts n refl refl
-    (evaluated_still old s t g.T.Table.counts n (ap (λ (p : Presentation). p.log) rest.presentation_is) rest.diary_is c.loop-coming.invariant.6)
+    record {
+      state =
+          ap (λ (x : CellsState). x.presentation) c.pass_to.ensures.moved
+          ∙ (ap (λ (x : CellsState). as_of x.presentation (nat_abs until)) c.self-2.view_is
+          ∙ (ap (λ (p : Presentation). as_of p (nat_abs until)) v.0.presentation_is
+          ∙ ap (λ (z : ℤ). as_of q (nat_abs z)) (to_z-of_z w64 c.args.until c.ranges.until)));
+      settled = c.pass_to.ensures.ended (λ x e. subst (λ (s : CellsState). NothingBefore s (until +ℤ pos 1)) (sym c.self-2.view_is) c.in_default.ensures.none x e);
+      goes_on = goes_on old s t until v.0 rest;
+      more = stay_touched old s t until v.0 rest;
+      only = touched_at_rest old s t rest v.7;
+    }
 
-pub returns-clause-only : goal.returns-clause-only
-returns-clause-only g c = touched_at_rest (touched_at c.args.self.now c.args.places) (touched_at c.loop-coming.self c.loop-coming.places) c.pass_to.new.self (at_rest g c) c.loop-coming.invariant.7
+pub returns-clause-evaluated : goal.returns-clause-evaluated
+returns-clause-evaluated g c =
+    let v = c.loop-coming.invariant in
+    let old = touched_at c.args.self.now c.args.places in
+    let s = touched_at c.loop-coming.self c.loop-coming.places in
+    let t = c.pass_to.new.self in
+    let flag = g.T.Table.counts in
+    let n = c.loop-coming.steps - c.args.steps.now in
+    let nodes = c.args.self.now.presentation.document.nodes in
+    let len = length c.args.self.now.diary in
+    let rest = at_rest g c in
+    let log = ap (λ (p : Presentation). p.log) rest.presentation_is in
+    record {
+      most =
+          subst (λ (l : List LogEntry). WhereTold flag (n ≤ reaches nodes l (drop len t.diary))) (sym log)
+          (subst (λ (d : List Entry). WhereTold flag (n ≤ reaches nodes s.presentation.log (drop len d))) (sym rest.diary_is) v.4);
+      least = subst (λ (k : ℕ). WhereTold flag (k ≤ n)) (sym (fresh_at_rest old s t (to_z w64 (of_z w64 c.args.until)) v.0 rest)) v.5;
+      evaluated = evaluated_from old c.args.self.now t flag n refl refl (evaluated_still old s t flag n log rest.diary_is v.6);
+    }

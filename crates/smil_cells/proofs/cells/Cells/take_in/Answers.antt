@@ -1,4 +1,4 @@
-use Rattle.std.proofs.Common.{refl, sym, ◌∙◌, ap, subst, ◌≡◌, ◌-◌, ◌≤◌, ◌+ℤ◌, ℕ, ℤ, List, length, None, Some, Option, Bool, true, w64, to_z, of_z}
+use Rattle.std.proofs.Common.{refl, sym, ◌∙◌, ap, subst, ◌≡◌, ◌-◌, ◌+ℤ◌, ℕ, ℤ, List, length, None, Some, Option, Bool, true, w64, to_z, of_z}
 use Rattle.std.specs.Prelude.{pos, nat_abs, IfErr}
 use Rattle.std.proofs.lemmas.Int.{to_z-of_z}
 use Rattle.smil_model.specs.declared.diary.Entry.{Entry as AnyEntry}
@@ -11,17 +11,17 @@ use Rattle.smil_diary.specs.declared.fault.BookFault.TheVariants as book_fault
 use Rattle.smil_past.specs.Past as past_of
 use Rattle.smil_past.specs.Past.{MarkedHistory}
 use Rattle.smil_element.proofs.PresentMoment.{present_fits}
-use Rattle.smil_cells.specs.CellsState.{CellsState, IsFront, IsHeard, IsRefusing, NothingBefore, WhereTold, fresh_since, with_logged}
+use Rattle.smil_cells.specs.CellsState.{CellsState, IsHeard, NothingBefore, with_logged}
 use Rattle.smil_cells.specs.Evaluated.{HasEvaluatedBehind}
+use Rattle.smil_cells.specs.Settling.{HasRefused, IsCounted}
 use Rattle.smil_cells.specs.Shown.{TouchesOnly, elements_at, touched_at}
 use Rattle.smil_cells.specs.Standings.{IsSound, IsSoundUnderMark, standing_of}
 use Rattle.smil_rounds.proofs.MomentEntries.{positive}
 use Rattle.smil_cells.proofs.MarkKept.{kept, refusing, with_entry}
-use Rattle.smil_cells.proofs.ElementsByPlace.{nothing, still_stands}
-use Rattle.smil_cells.proofs.PlacesPut.{stay_before, stay_listed}
-use Rattle.smil_cells.proofs.GroupEvaluations.{evaluated_behind}
+use Rattle.smil_cells.proofs.PlacesPut.{stay_listed}
+use Rattle.smil_cells.proofs.GroupEvaluations.{evaluated_behind, most_behind}
 use Rattle.smil_cells.proofs.ElementsTouched.{front_of, touches_only}
-use Rattle.smil_cells.proofs.FullDiaryRefusals.{refused_by}
+use Rattle.smil_cells.proofs.FullDiaryRefusals.{for_memory}
 use Rattle.smil_cells.proofs.CellsHeard.{present_heard, is_log_heard, may_hear, sound_heard, front_heard, current_before, came_heard, least_heard, step_heard}
 use Rattle.smil_cells.proofs.cells.Cells.take_in.Given.{Over}
 use Rattle.smil_cells.proofs.cells.Cells.take_in.Goals as goal
@@ -70,57 +70,39 @@ hear-requires-clause-may g c =
     let b = before g (goal.at.hear-requires-clause-may g c).After-len-from in
     may_hear i.past i.moment c.args.entry i.fault i.mark i.touched b.was.state b.was.reached b.here c.reached_is_past.ensures c.log_may_be_longer.ensures c.reaches_further.ensures b.quiet c.resolved_is_near.ensures
 
-pub returns-in-Err-clause-full : goal.returns-in-Err-clause-full
-returns-in-Err-clause-full g c =
+pub returns-in-Err-clause-refused : goal.returns-in-Err-clause-refused
+returns-in-Err-clause-refused g c =
     let i = c.self.inside in
-    let b = before g (goal.at.returns-in-Err-clause-full g c).After-len-from in
-    λ f. subst (λ (s : CellsState). IsFront (course_of (with_logged s.presentation c.args.entry)) c.hear.new.self.diary) c.self.view_is
-    (subst (λ (x : MarkedHistory). IsFront (course_of (with_logged (standing_of i.past i.moment i.fault i.mark i.touched).presentation c.args.entry)) x.diary) (sym c.in-Err.ensures.err)
-    (front_heard i.past i.moment c.args.entry i.fault i.mark i.touched b.was.state b.was.reached b.here c.reached_is_past.ensures c.log_may_be_longer.ensures c.reaches_further.ensures b.quiet (c.in-Err.ensures.full f)))
+    let b = before g (goal.at.returns-in-Err-clause-refused g c).After-len-from in
+    let was = standing_of i.past i.moment i.fault i.mark i.touched in
+    subst (λ (s : CellsState). HasRefused (course_of (with_logged s.presentation c.args.entry)) s (standing_of c.hear.new.self i.moment (Some c.in-Err.fault) i.mark i.touched) c.in-Err.fault) c.self.view_is
+    (subst (λ (x : MarkedHistory). HasRefused (course_of (with_logged was.presentation c.args.entry)) was (standing_of x i.moment (Some c.in-Err.fault) i.mark i.touched) c.in-Err.fault) (sym c.in-Err.ensures.err)
+    (record {
+      refusing = record { fault_is = refl; document = refl; marked = refl };
+      full = λ f. front_heard i.past i.moment c.args.entry i.fault i.mark i.touched b.was.state b.was.reached b.here c.reached_is_past.ensures c.log_may_be_longer.ensures c.reaches_further.ensures b.quiet (c.in-Err.ensures.full f);
+    }))
 
-pub invariant_of-self-in_err-touch : goal.invariant_of-self-in_err-touch
-invariant_of-self-in_err-touch g c =
+pub take_entries-requires-clause-before : goal.take_entries-requires-clause-before
+take_entries-requires-clause-before g c =
     let i = c.self.inside in
-    let all = goal.at.invariant_of-self-in_err-touch g c in
-    keeps g all.After-possible (before g all.After-len-from) (g.T.Table.is_current i.table) (g.T.Table.is_marked i.table) (g.T.Table.has_mark i.table) (Some book_fault.Memory) i.touched (λ h now k. k) refl (λ never. cc)
-
-pub refresh-requires-clause-before : goal.refresh-requires-clause-before
-refresh-requires-clause-before g c =
-    let i = c.self.inside in
-    let b = before g (goal.at.refresh-requires-clause-before g c).After-len-from in
+    let b = before g (goal.at.take_entries-requires-clause-before g c).After-len-from in
     current_before i.past i.moment c.args.entry i.fault i.mark i.touched b.was.state b.was.reached b.here c.reached_is_past.ensures c.log_may_be_longer.ensures c.len-from.result _ b.now (c.len-from.ensures.value ∙ ap (λ (l : List AnyEntry). length l) c.book.ensures)
     (g.T.Table.is_current i.table) (g.met.T.Table.stays i.table) b.was.current c.hear.new.self c.in_default.ensures.ok
 
-pub invariant_of-self-in_err-refresh : goal.invariant_of-self-in_err-refresh
-invariant_of-self-in_err-refresh g c =
-    let all = goal.at.invariant_of-self-in_err-refresh g c in
-    keeps g all.After-possible (before g all.After-len-from) (g.T.Table.is_current c.refresh.new.self) (g.T.Table.is_marked c.refresh.new.self) (g.T.Table.has_mark c.refresh.new.self) (Some book_fault.Memory) c.self.inside.touched c.refresh.ensures.marked c.refresh.ensures.has_mark (λ never. cc)
-
-pub invariant_of-self-in_err-put_nodes : goal.invariant_of-self-in_err-put_nodes
-invariant_of-self-in_err-put_nodes g c =
-    let all = goal.at.invariant_of-self-in_err-put_nodes g c in
-    keeps g all.After-possible (before g all.After-len-from) (g.T.Table.is_current c.refresh.new.self) (g.T.Table.is_marked c.refresh.new.self) (g.T.Table.has_mark c.refresh.new.self) (Some book_fault.Memory) c.self.inside.touched c.refresh.ensures.marked c.refresh.ensures.has_mark (λ never. cc)
-
-pub returns-in_err-refresh-clause-refused : goal.returns-in_err-refresh-clause-refused
-returns-in_err-refresh-clause-refused g c =
-    let i = c.self.inside in
-    let before = standing_of i.past i.moment i.fault i.mark i.touched in
-    let new = standing_of c.hear.new.self i.moment (Some book_fault.Memory) i.mark i.touched in
-    subst (λ (s : CellsState). IfErr c.from_residual-in_err-refresh.result (IsRefusing s new)) c.self.view_is
-    (refused_by c.from_residual-in_err-refresh.result (λ (f : BookFault). f ≡ book_fault.Memory) (IsRefusing before new)
-    (λ f p. subst (λ (k : BookFault). IsRefusing before new k) (sym p)
-    (refusing i.past c.hear.new.self (with_entry i.past c.hear.new.self c.args.entry c.in_default.ensures.ok) c.self.invariant.lens i.moment i.fault book_fault.Memory i.mark i.touched i.touched))
-    c.from_residual-in_err-refresh.ensures.1)
+pub invariant_of-self-in_err-take_entries : goal.invariant_of-self-in_err-take_entries
+invariant_of-self-in_err-take_entries g c =
+    let all = goal.at.invariant_of-self-in_err-take_entries g c in
+    keeps g all.After-possible (before g all.After-len-from) (g.T.Table.is_current c.take_entries.new.table) (g.T.Table.is_marked c.take_entries.new.table) (g.T.Table.has_mark c.take_entries.new.table) (Some book_fault.Memory) c.self.inside.touched c.take_entries.ensures.marked c.take_entries.ensures.has_mark (λ never. cc)
 
 pub invariant_of-self-2 : goal.invariant_of-self-2
 invariant_of-self-2 g c =
     let i = c.self.inside in
     let all = goal.at.invariant_of-self-2 g c in
     let b = before g all.After-len-from in
-    keeps g all.After-possible b (g.T.Table.is_current c.refresh.new.self) (g.T.Table.is_marked c.refresh.new.self) (g.T.Table.has_mark c.refresh.new.self) None i.touched c.refresh.ensures.marked c.refresh.ensures.has_mark
-    (λ e. subst (λ (x : MarkedHistory). g.T.Table.is_current c.refresh.new.self (past_of.history_of x) (pos (nat_abs i.moment)) → IsSound (g.T.Table.is_current c.refresh.new.self) (standing_of x i.moment None i.mark i.touched)) (sym c.in_default.ensures.ok)
-    (λ current. sound_heard i.past i.moment c.args.entry i.fault i.mark i.touched b.was.state b.was.reached b.here c.reached_is_past.ensures c.log_may_be_longer.ensures c.reaches_further.ensures b.quiet (g.T.Table.is_current c.refresh.new.self) i.touched c.requires.may current)
-    (subst (λ (v : ℤ). g.T.Table.is_current c.refresh.new.self (past_of.history_of c.hear.new.self) v) b.now c.in_ok-refresh.ensures.current))
+    keeps g all.After-possible b (g.T.Table.is_current c.take_entries.new.table) (g.T.Table.is_marked c.take_entries.new.table) (g.T.Table.has_mark c.take_entries.new.table) None i.touched c.take_entries.ensures.marked c.take_entries.ensures.has_mark
+    (λ e. subst (λ (x : MarkedHistory). g.T.Table.is_current c.take_entries.new.table (past_of.history_of x) (pos (nat_abs i.moment)) → IsSound (g.T.Table.is_current c.take_entries.new.table) (standing_of x i.moment None i.mark i.touched)) (sym c.in_default.ensures.ok)
+    (λ current. sound_heard i.past i.moment c.args.entry i.fault i.mark i.touched b.was.state b.was.reached b.here c.reached_is_past.ensures c.log_may_be_longer.ensures c.reaches_further.ensures b.quiet (g.T.Table.is_current c.take_entries.new.table) i.touched c.requires.may current)
+    (subst (λ (v : ℤ). g.T.Table.is_current c.take_entries.new.table (past_of.history_of c.hear.new.self) v) b.now c.in_ok-take_entries.ensures.current))
 
 pub returns-clause-heard : goal.returns-clause-heard
 returns-clause-heard g c =
@@ -128,43 +110,13 @@ returns-clause-heard g c =
     let b = before g (goal.at.returns-clause-heard g c).After-len-from in
     let new = c.hear.new.self in
     let same = ap (λ (x : MarkedHistory). x.document) c.in_default.ensures.ok in
+    let put = c.in_ok-take_entries.ensures.put in
     let was = elements_at i.past.document.nodes c.args.places.now in
-    let mid = elements_at new.document.nodes c.touch.new.touched in
-    let after = elements_at new.document.nodes c.put_nodes.new.places in
+    let after = elements_at new.document.nodes c.take_entries.new.places in
     subst (λ (s : CellsState). IsHeard (touched_at s c.args.places.now) c.args.entry (standing_of new i.moment None i.mark after)) c.self.view_is
-    (came_heard i.past i.moment c.args.entry i.fault i.mark was b.was.state b.was.reached b.here c.reached_is_past.ensures c.log_may_be_longer.ensures c.len-from.result _ b.now (c.len-from.ensures.value ∙ ap (λ (l : List AnyEntry). length l) c.book.ensures) mid after
-    c.self.invariant.lens (step_heard i.past i.moment c.args.entry i.fault i.mark was b.was.state b.was.reached b.here c.reached_is_past.ensures c.log_may_be_longer.ensures c.reaches_further.ensures b.quiet) (still_stands new.document.nodes c.touch.new.touched c.put_nodes.new.places c.in_ok-put_nodes.ensures.more)
-    new c.in_default.ensures.ok (stay_listed i.past.document new same c.args.places.now c.touch.new.touched c.in_ok-touch.ensures.more) c.in_ok-touch.ensures.shown
-    (stay_before _ c.len-from.result c.refresh.new.changed c.put_nodes.new.places new c.tree.result.now c.tree.ensures c.in_ok-put_nodes.ensures.put c.in_ok-refresh.ensures.changed))
-
-pub returns-clause-least : goal.returns-clause-least
-returns-clause-least g c =
-    let i = c.self.inside in
-    let b = before g (goal.at.returns-clause-least g c).After-len-from in
-    subst (λ (s : CellsState). WhereTold g.T.Table.counts (fresh_since s (standing_of c.hear.new.self i.moment None i.mark i.touched) ≤ c.refresh.new.steps - c.args.steps.now)) c.self.view_is
-    (least_heard i.past i.moment c.args.entry i.fault i.mark i.touched b.was.state b.was.reached b.here c.reached_is_past.ensures c.log_may_be_longer.ensures c.len-from.result _ b.now (c.len-from.ensures.value ∙ ap (λ (l : List AnyEntry). length l) c.book.ensures) g.T.Table.counts (c.refresh.new.steps - c.args.steps.now) i.touched c.hear.new.self c.in_default.ensures.ok c.in_ok-refresh.ensures.least)
-
-pub returns-in_err-put_nodes-clause-refused : goal.returns-in_err-put_nodes-clause-refused
-returns-in_err-put_nodes-clause-refused g c =
-    let i = c.self.inside in
-    let before = standing_of i.past i.moment i.fault i.mark i.touched in
-    let new = standing_of c.hear.new.self i.moment (Some book_fault.Memory) i.mark i.touched in
-    subst (λ (s : CellsState). IfErr c.from_residual-in_err-put_nodes.result (IsRefusing s new)) c.self.view_is
-    (refused_by c.from_residual-in_err-put_nodes.result (λ (f : BookFault). f ≡ book_fault.Memory) (IsRefusing before new)
-    (λ f p. subst (λ (k : BookFault). IsRefusing before new k) (sym p)
-    (refusing i.past c.hear.new.self (with_entry i.past c.hear.new.self c.args.entry c.in_default.ensures.ok) c.self.invariant.lens i.moment i.fault book_fault.Memory i.mark i.touched i.touched))
-    c.from_residual-in_err-put_nodes.ensures.1)
-
-pub returns-clause-evaluated : goal.returns-clause-evaluated
-returns-clause-evaluated g c =
-    let i = c.self.inside in
-    let b = before g (goal.at.returns-clause-evaluated g c).After-len-from in
-    let new = c.hear.new.self in
-    let begins = c.len-from.ensures.value ∙ ap (λ (l : List AnyEntry). length l) c.book.ensures in
-    subst (λ (s : CellsState). WhereTold g.T.Table.counts (HasEvaluatedBehind s (standing_of new i.moment None i.mark i.touched) (c.refresh.new.steps - c.args.steps.now))) c.self.view_is
-    (evaluated_behind i.past new i.moment _ i.fault i.mark i.touched i.touched c.len-from.result (c.refresh.new.steps - c.args.steps.now) begins
-    (front_of i.past.diary _ new.diary c.len-from.result (ap (λ (x : MarkedHistory). x.diary) c.in_default.ensures.ok) begins)
-    b.now g.T.Table.counts c.in_ok-refresh.ensures.evaluated)
+    (came_heard i.past i.moment c.args.entry i.fault i.mark was b.was.state b.was.reached b.here c.reached_is_past.ensures c.log_may_be_longer.ensures c.len-from.result _ b.now (c.len-from.ensures.value ∙ ap (λ (l : List AnyEntry). length l) c.book.ensures) after
+    c.self.invariant.lens (step_heard i.past i.moment c.args.entry i.fault i.mark was b.was.state b.was.reached b.here c.reached_is_past.ensures c.log_may_be_longer.ensures c.reaches_further.ensures b.quiet)
+    new c.in_default.ensures.ok (stay_listed i.past.document new same c.args.places.now c.take_entries.new.places put.more) put.shown put.others)
 
 pub returns-clause-only : goal.returns-clause-only
 returns-clause-only g c =
@@ -172,9 +124,35 @@ returns-clause-only g c =
     let b = before g (goal.at.returns-clause-only g c).After-len-from in
     let new = c.hear.new.self in
     let begins = c.len-from.ensures.value ∙ ap (λ (l : List AnyEntry). length l) c.book.ensures in
-    subst (λ (s : CellsState). TouchesOnly (touched_at s c.args.places.now) (touched_at (standing_of new i.moment None i.mark i.touched) c.put_nodes.new.places)) c.self.view_is
+    subst (λ (s : CellsState). TouchesOnly (touched_at s c.args.places.now) (touched_at (standing_of new i.moment None i.mark i.touched) c.take_entries.new.places)) c.self.view_is
     (touches_only i.past new i.moment _ i.fault i.mark i.touched c.len-from.result (ap (λ (x : MarkedHistory). x.document) c.in_default.ensures.ok) begins
     (front_of i.past.diary _ new.diary c.len-from.result (ap (λ (x : MarkedHistory). x.diary) c.in_default.ensures.ok) begins)
-    b.now
-    c.args.places.now c.touch.new.touched c.put_nodes.new.places _ c.refresh.new.changed i.touched c.tree.result.now c.tree.ensures (c.cut_back.ensures ∙ nothing i.changed)
-    c.in_ok-touch.ensures.only c.in_ok-put_nodes.ensures.only c.in_ok-refresh.ensures.told)
+    b.now c.args.places.now c.take_entries.new.places i.touched c.in_ok-take_entries.ensures.put)
+
+pub returns-in_err-take_entries-clause-refused : goal.returns-in_err-take_entries-clause-refused
+returns-in_err-take_entries-clause-refused g c =
+    let i = c.self.inside in
+    let before = standing_of i.past i.moment i.fault i.mark i.touched in
+    let new = standing_of c.hear.new.self i.moment (Some book_fault.Memory) i.mark i.touched in
+    subst (λ (s : CellsState). IfErr c.from_residual.result (HasRefused (course_of (with_logged s.presentation c.args.entry)) s new)) c.self.view_is
+    (for_memory c.from_residual.result (course_of (with_logged before.presentation c.args.entry)) before new
+    (λ f. refusing i.past c.hear.new.self (with_entry i.past c.hear.new.self c.args.entry c.in_default.ensures.ok) c.self.invariant.lens i.moment i.fault f i.mark i.touched i.touched)
+    c.from_residual.ensures.1)
+
+pub returns-clause-evaluated : goal.returns-clause-evaluated
+returns-clause-evaluated g c =
+    let i = c.self.inside in
+    let b = before g (goal.at.returns-clause-evaluated g c).After-len-from in
+    let new = c.hear.new.self in
+    let told = c.in_ok-take_entries.ensures.evaluated in
+    let n = c.take_entries.new.steps - c.args.steps.now in
+    let begins = c.len-from.ensures.value ∙ ap (λ (l : List AnyEntry). length l) c.book.ensures in
+    subst (λ (s : CellsState). IsCounted g.T.Table.counts HasEvaluatedBehind s (standing_of new i.moment None i.mark i.touched) n) c.self.view_is
+    (record {
+      most = most_behind i.past new i.moment i.fault i.mark i.touched i.touched c.len-from.result n begins (ap (λ (x : MarkedHistory). x.document) c.in_default.ensures.ok) g.T.Table.counts told.most;
+      least = least_heard i.past i.moment c.args.entry i.fault i.mark i.touched b.was.state b.was.reached b.here c.reached_is_past.ensures c.log_may_be_longer.ensures c.len-from.result _ b.now begins g.T.Table.counts n i.touched new c.in_default.ensures.ok told.least;
+      evaluated =
+          evaluated_behind i.past new i.moment _ i.fault i.mark i.touched i.touched c.len-from.result n begins
+          (front_of i.past.diary _ new.diary c.len-from.result (ap (λ (x : MarkedHistory). x.diary) c.in_default.ensures.ok) begins)
+          b.now g.T.Table.counts told.evaluated;
+    })

@@ -1,15 +1,23 @@
-use Rattle.std.proofs.Common.{◌≡◌, ◌∙◌, ap, List, ℕ, Option, length, replicate, arith, rules}
-use Rattle.std.proofs.lemmas.List.{length-replicate}
+use Rattle.std.proofs.Common.{◌≡◌, ◌∙◌, ap, subst, sym, List, ℕ, ◌+◌, ◌*◌, ◌/◌, ◌-◌, None, drop, replicate, arith, rules}
+use Rattle.std.specs.Prelude.{Option}
+use Rattle.std.proofs.lemmas.List.{drop-replicate}
+use Rattle.smil_nodes.specs.Slots.{IsDueTree}
+use Rattle.smil_nodes.proofs.DueTrees.{none_tree}
 use Rattle.smil_nodes.proofs.due_tree.DueTree.new.Goals as goal
 
-pub of-requires : goal.of-requires
-of-requires c =
-    let are : c.in_ok-slots.slots.items ≡ replicate c.args.count c.none.result = c.in_ok-slots.ensures.items_if_clones_equal (λ y h. search rules) in
-    let long : length c.as_slice.result.now ≡ c.args.count =
-    ap (λ (slots : List (Option ℕ)). length slots) (c.as_slice.ensures.value ∙ are) ∙ length-replicate c.args.count c.none.result in
-    omega (arith, long, c.requires)
+pub invariant_of-result : goal.invariant_of-result
+invariant_of-result c =
+    let count = c.args.count in
+    let length = 8 * (count / 7 + 1) + 1 in
+    let are : c.in_ok-places.places.items ≡ replicate length None = c.in_ok-places.ensures.items_if_clones_equal (λ y h. search rules) ∙ ap (replicate length) c.none.ensures in
+    subst (λ (places : List (Option ℕ)). IsDueTree places (length - count)) (sym are) (none_tree count c.requires)
 
 pub returns : goal.returns
 returns c =
-    let are : c.in_ok-slots.slots.items ≡ replicate c.args.count c.none.result = c.in_ok-slots.ensures.items_if_clones_equal (λ y h. search rules) in
-    c.in_ok-of.ensures ∙ c.as_slice.ensures.value ∙ are ∙ ap (replicate c.args.count) c.none.ensures
+    let count = c.args.count in
+    let length = 8 * (count / 7 + 1) + 1 in
+    let are : c.in_ok-places.places.items ≡ replicate length None = c.in_ok-places.ensures.items_if_clones_equal (λ y h. search rules) ∙ ap (replicate length) c.none.ensures in
+    let rest : length - (length - count) ≡ count = omega arith in
+    ap (drop (length - count)) are
+    ∙ drop-replicate (length - count) length None
+    ∙ ap (λ (n : ℕ). replicate n None) rest

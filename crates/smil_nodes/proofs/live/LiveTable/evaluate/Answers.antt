@@ -88,6 +88,11 @@ module _ (g : Over) (c : In_ok-made g) where
   own : (rows : List CurrentRow) → rows ≡ row_put c.args.self.now.schedule c.unwrap-index.result made.interval made.comings → interval_in rows c.args.present.now.who ≡ made.interval
   own rows put = own_interval _ c.args.self.now.schedule _ _ made at is_row.serial rows (put_is rows put)
 
+pub put_ending-requires-clause-here : goal.put_ending-requires-clause-here
+put_ending-requires-clause-here g c =
+    let at = found_row g (goal.at.put_ending-requires-clause-here g c).After-unwrap-index in
+    at.here ∙ sym at.node
+
 pub put_ending-requires-clause-index : goal.put_ending-requires-clause-index
 put_ending-requires-clause-index g c =
     let all = (goal.at.put_ending-requires-clause-index g c).In_ok-made in

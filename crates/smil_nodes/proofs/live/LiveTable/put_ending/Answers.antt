@@ -23,13 +23,13 @@ pub returns-then-is_same_ending-clause-ended : goal.returns-then-is_same_ending-
 returns-then-is_same_ending-clause-ended c =
     let ends = c.args.self.now.endings in
     sym (put_back ends c.args.index)
-    ∙ ap (put_ending ends c.args.index) (sym c.ending.ensures ∙ c.is_same_ending.ensures.0 c.if-is_same_ending.true ∙ c.ending_of-ending.ensures)
+    ∙ ap (put_ending ends c.args.index) (sym c.ending.ensures ∙ c.is_same_ending.ensures.0 c.if-is_same_ending.true ∙ c.ending_at-ending.ensures)
 
 pub returns-clause-ended : goal.returns-clause-ended
 returns-clause-ended c =
     elim c.if-self.branch [
-      | then-self+in_ok-note w ↦ c.put.ensures ∙ (λ i. put_ending (w.self-is i).endings c.args.index (c.ending_of-ending.ensures i))
-      | else-self w ↦ c.put.ensures ∙ (λ i. put_ending (w.self-is i).endings c.args.index (c.ending_of-ending.ensures i))
+      | then-self+in_ok-note w ↦ c.put.ensures ∙ (λ i. put_ending (w.self-is i).endings c.args.index (c.ending_at-ending.ensures i))
+      | else-self w ↦ c.put.ensures ∙ (λ i. put_ending (w.self-is i).endings c.args.index (c.ending_at-ending.ensures i))
     ]
 
 pub returns-in_err-note-clause-back : goal.returns-in_err-note-clause-back
@@ -48,9 +48,9 @@ returns-clause-back c = λ marked.
           (let kept : Kept = record { rows = rows; ends = ends } in
           let row = w.row.result.now in
           let note = note_of c.args.index w.row.result.now ends in
-          let next : Note = record { index = c.args.index; interval = row.interval; comings = row.comings; ending = c.ending_of-ending.result } in
+          let next : Note = record { index = c.args.index; interval = row.interval; comings = row.comings; ending = c.ending_at-ending.result } in
           let put : c.if-self.self.schedule ≡ row_put rows c.args.index row.interval row.comings = ap (λ (t : LiveTable). t.schedule) w.self-is ∙ sym (row_same rows c.args.index row w.row.ensures.row) in
-          let ended : c.put.new.self ≡ put_ending ends c.args.index c.ending_of-ending.result = c.put.ensures ∙ ap (λ (t : LiveTable). put_ending t.endings c.args.index c.ending_of-ending.result) w.self-is in
+          let ended : c.put.new.self ≡ put_ending ends c.args.index c.ending_at-ending.result = c.put.ensures ∙ ap (λ (t : LiveTable). put_ending t.endings c.args.index c.ending_at-ending.result) w.self-is in
           (λ i. back_from c.if-self.self.undo (put i) (ended i))
           ∙ ap (λ (t : LiveTable). all_back (put_at kept c.args.index next) t.undo) w.self-is
           ∙ back_noted kept c.args.self.now.undo w.note.new.self note next (there rows ends c.args.index w.row.result.now note.ending w.row.ensures.row refl) w.note.ensures.grown w.in_ok-note.ensures.noted)

@@ -39,12 +39,12 @@ loop-rank-init g c =
     let graph = c.graph-graph.result.now in
     let order = c.order-order.result.now in
     let rows = c.args.self.now.schedule in
-    let listed = has c.note_touched.new.agenda in
+    let listed = has c.note_concerned.new.agenda in
     let is = is_order graph nodes order c.graph-graph.ensures c.order-order.ensures.order in
     let in_order = ordered past.document c.possible.ensures.valid.numbered in
     let apart = differ_in nodes order c.possible.ensures.valid.numbered.distinct is in
-    let told = noted_told graph past c.args.since.now.from c.clear.new.self c.note_touched.new.agenda order c.order-order.ensures.kept c.graph-graph.ensures c.clear.ensures c.in_ok-note_touched.ensures in
-    let within = noted_within graph past c.args.since.now.from c.clear.new.self c.note_touched.new.agenda order c.order-order.ensures.kept c.graph-graph.ensures c.clear.ensures c.in_ok-note_touched.ensures in (
+    let told = noted_told graph past (interval_in rows) c.args.since.now.from c.clear.new.self c.note_concerned.new.agenda order c.order-order.ensures.kept c.graph-graph.ensures c.clear.ensures c.in_ok-note_concerned.ensures in
+    let within = noted_within graph past (interval_in rows) c.args.since.now.from c.clear.new.self c.note_concerned.new.agenda order c.order-order.ensures.kept c.graph-graph.ensures c.clear.ensures c.in_ok-note_concerned.ensures in (
       subst (λ (m : ℤ). AreSettled (history_of past) m order listed rows) (sym (to_z-of_z w64 c.args.since.now.moment (present_fits c.args.since.now.past.now c.args.since.now.moment c.requires.moment)))
           (settled_first past c.args.since.now.from c.args.since.now.moment order rows listed in_order is apart told c.requires.before.rows_are),
       none_counted (history_of past) _ nodes past.log (drop c.args.since.now.from past.diary) order rows c.args.steps.now listed within
@@ -54,7 +54,7 @@ loop-rank-init g c =
       λ m. refl,
       refl,
       omega arith,
-      known_first past c.args.since.now.from order listed in_order apart told (interval_in rows) c.args.self.now.endings c.requires.before.ends_are,
+      known_first past c.args.since.now.from (interval_in rows) order listed in_order apart told (interval_in rows) c.args.self.now.endings c.requires.before.ends_are,
       λ s on. inl on,
     )
 
