@@ -1,6 +1,6 @@
 -- Cells that go on with an edited document from the part of the diary that stays, and how often
 -- edits and backward seeks have intervals evaluated.
-use Rattle.std.proofs.Common.{◌≡◌, refl, sym, ◌∙◌, ap, subst, ℕ, ◌+◌, ◌≤◌, ◌++◌, List, length, take, drop, ℤ, negsuc, Bool, true, false, Result, Ok, Err, arith}
+use Rattle.std.proofs.Common.{◌≡◌, refl, sym, ◌∙◌, ap, cond, subst, ℕ, ◌+◌, ◌≤◌, ◌++◌, List, length, take, drop, ℤ, negsuc, Bool, true, false, Result, Ok, Err, arith}
 use Rattle.std.specs.Prelude.{IfErr, OnOk, filter, int_le, nat_abs, nat_lt, pos, ◌<ℤ◌, ◌≤ℤ◌}
 use Rattle.std.proofs.lemmas.Bool.{lt-ltb}
 use Rattle.std.proofs.lemmas.Int.{ints}
@@ -10,7 +10,7 @@ use Rattle.smil_model.specs.declared.order.Order.{Order}
 use Rattle.smil_model.specs.declared.order.Order.TheVariants as order
 use Rattle.smil_model.specs.declared.order.Refusal.{Refusal}
 use Rattle.smil_model.specs.document.Document.{Document, elements}
-use Rattle.smil_model.specs.document.Valid.{IsValid}
+use Rattle.smil_model.specs.document.Valid.{IsNumberedTree, IsValid}
 use Rattle.smil_model.specs.document.Values.{is_clock}
 use Rattle.smil_model.specs.shown.Answers.{Refuses}
 use Rattle.smil_model.specs.shown.Orders.{IsState, Presentation, course_of}
@@ -18,18 +18,19 @@ use Rattle.smil_report.specs.Tellings.{Telling, Tells}
 use Rattle.smil_grammar.specs.Formats.{formats}
 use Rattle.smil_cells.specs.CellsState.{IsRebuilt, MayRebuild, CellsState, WhereTold}
 use Rattle.smil_live.specs.Counted.{IsAtLeast, IsAtMost, KeepsToCounts, IsFree}
-use Rattle.smil_live.specs.Counts.{diary_at, least_between, least_editing, least_loading, least_seeking, most_between, most_number, most_seeking, reached_behind, told_where}
+use Rattle.smil_live.specs.Counts.{diary_at, edits_text, least_between, least_editing, least_loading, least_seeking, most_between, most_number, most_seeking, reached_behind, told_where}
 use Rattle.smil_live.specs.Editing.{IsEdited, edit_of}
 use Rattle.smil_shown.specs.ShownViews.{IsPlaying}
-use Rattle.smil_live.specs.Kept.{IsKept}
 use Rattle.smil_live.specs.Moves.{IsReplayed, IsTooFull, IsUnderWay, edited_to, sought_of}
 use Rattle.smil_shown.specs.ViewTable.{ViewLists}
-use Rattle.smil_live.specs.Sites.{IsMade, most_resolving, site_of}
+use Rattle.smil_live.specs.Sites.{IsMade, most_resolving, site_of, staying}
 use Rattle.smil_live.specs.Telling.{is_edit}
+use Rattle.smil_live.specs.Texts.{AgreeButForTexts}
 use Rattle.smil_live.specs.declared.edits.Site.{Site}
 use Rattle.smil_live.proofs.CountedOrders.{at_least, at_most, free_too_full}
 use Rattle.smil_live.proofs.EditedPresentations.{edited_accepted, edited_appended, edited_state, not_edited}
-use Rattle.smil_live.proofs.KeptEntries.{kept_part, kept_reached, kept_within}
+use Rattle.smil_live.proofs.AgreedEdits.{text_agrees}
+use Rattle.smil_live.proofs.AgreedParts.{staying_part, staying_within}
 use Rattle.smil_shown.proofs.SettledDiaries.{diary_is}
 use Rattle.smil_live.proofs.LogParts.{log_parts}
 use Rattle.smil_live.proofs.OrderOutcomes.{clock_from, sought_state}
@@ -50,7 +51,7 @@ pub record IsEditedAt (s : CellsState) (shown : ViewLists) (p : Presentation) (d
   pub same : d ≡ e
   pub valid : IsValid d
   pub made : IsMade p.document at e
-  pub count : IsKept p e at len
+  pub count : len ≡ staying p e at
 
 module _ {s : CellsState} {shown : ViewLists} {p : Presentation} {d e : Document} {at : Site} {len : ℕ} (edit : IsEditedAt s shown p d e at len) where
   pub edited_is : edited_to s.presentation d ≡ edited_to p e
@@ -62,14 +63,18 @@ module _ {s : CellsState} {shown : ViewLists} {p : Presentation} {d e : Document
   made_here : IsMade s.presentation.document at d
   made_here = subst (λ (q : Presentation). IsMade q.document at d) (sym edit.view) (subst (λ (x : Document). IsMade p.document at x) (sym edit.same) edit.made)
 
-  count_here : IsKept s.presentation d at len
-  count_here = subst (λ (q : Presentation). IsKept q d at len) (sym edit.view) (subst (λ (x : Document). IsKept p x at len) (sym edit.same) edit.count)
+  count_here : len ≡ staying s.presentation d at
+  count_here = subst (λ (q : Presentation). len ≡ staying q d at) (sym edit.view) (subst (λ (x : Document). len ≡ staying p x at) (sym edit.same) edit.count)
 
   part : IsPart d.nodes s.presentation.log (take len s.diary) s.presentation.now
-  part = kept_part s.presentation d at s.diary edit.is.shown_is.state.document.numbered edit.valid.numbered edit.is.shown_is.state.log made_here edit.is.shown_is.settled len count_here
+  part =
+      subst (λ (n : ℕ). IsPart d.nodes s.presentation.log (take n s.diary) s.presentation.now) (sym count_here)
+      (staying_part s.presentation d at s.diary edit.is.shown_is.state.document.numbered edit.valid.numbered edit.is.shown_is.state.log made_here edit.is.shown_is.settled)
 
   within : len ≤ length s.diary
-  within = kept_within s.presentation d at s.diary edit.is.shown_is.state.document.numbered edit.valid.numbered edit.is.shown_is.state.log made_here edit.is.shown_is.settled len count_here
+  within =
+      subst (λ (n : ℕ). n ≤ length s.diary) (sym count_here)
+      (staying_within s.presentation d at s.diary edit.is.shown_is.state.document.numbered edit.valid.numbered edit.is.shown_is.state.log made_here edit.is.shown_is.settled)
 
   pub edited_rebuild : MayRebuild s d len
   edited_rebuild = may_rebuild s d len s.presentation.now edit.valid within edit.is.unmarked part
@@ -77,19 +82,15 @@ module _ {s : CellsState} {shown : ViewLists} {p : Presentation} {d e : Document
   pub edited_way : (t : CellsState) → IsRebuilt s d len t → IsUnderWay (edited_to s.presentation d) (length t.presentation.log) t
   edited_way t rebuilt = rebuilt_way s t d len s.presentation.now rebuilt part (edited_to s.presentation d) refl refl refl
 
-  pub edited_count : length (elements d.nodes) + reached_behind len (edited_to s.presentation d) ≤ most_resolving p at e
+  pub edited_count : length (elements d.nodes) + reached_behind len (edited_to s.presentation d) ≡ most_resolving p at e
   edited_count =
-      let number : length (elements d.nodes) + reached_behind len (edited_to s.presentation d) ≡ length (elements e.nodes) + reached_behind len (edited_to p e) = ap (λ (x : Document). length (elements x.nodes) + reached_behind len (edited_to s.presentation d)) edit.same ∙ ap (λ (q : Presentation). length (elements e.nodes) + reached_behind len q) edited_is in
-      omega (arith, number, kept_reached p e at len edit.count)
-
--- no more than a number that is not greater
-pub told_more : (counts : Bool) (rise n m : ℕ) → n ≤ m → WhereTold counts (rise ≤ n) → WhereTold counts (rise ≤ m)
-told_more false rise n m l h = tt
-told_more true rise n m l h = omega (arith, l, h)
+      ap (λ (x : Document). length (elements x.nodes) + reached_behind len (edited_to s.presentation d)) edit.same
+      ∙ (ap (λ (q : Presentation). length (elements e.nodes) + reached_behind len q) edited_is
+      ∙ ap (λ (n : ℕ). length (elements e.nodes) + reached_behind n (edited_to p e)) edit.count)
 
 -- ---- how often an edit has intervals evaluated
 
-most_is : (p : Presentation) (o : Order) (d : Document) → is_edit o ≡ true → most_resolving p (site_of p.document o) d ≡ most_between p o (edited_to p d)
+most_is : (p : Presentation) (o : Order) (d : Document) → is_edit o ≡ true → cond (edits_text p o) 0 (most_resolving p (site_of p.document o) d) ≡ most_between p o (edited_to p d)
 most_is p (order.Set who name value name_column column) d edits = refl
 most_is p (order.Unset who name column) d edits = refl
 most_is p (order.Insert who place line column) d edits = refl
@@ -104,12 +105,16 @@ least_is p q (order.Remove who) edits = refl
 least_is p q _ edits = absurd cc
 
 module _ {I : Type 0} (tell : Telling I) where
-  edited_most : (r : Result (Unit {0}) Refusal) (counts : Bool) (p q : Presentation) (o : Order) (d : Document) (at : Site) (old new : List I) (rise : ℕ) → is_edit o ≡ true → edit_of p o ≡ Ok d → at ≡ site_of p.document o
-      → OnOk r (IsEdited tell p d q old new) → OnOk r (WhereTold counts (rise ≤ most_resolving p at d)) → OnOk r (IsAtMost counts p o rise)
-  edited_most (Err e) counts p q o d at old new rise edits edited here is most = tt
-  edited_most (Ok x) counts p q o d at old new rise edits edited here is most =
+  edited_most : (r : Result (Unit {0}) Refusal) (counts : Bool) (p q : Presentation) (o : Order) (d : Document) (at : Site) (old new : List I) (rise : ℕ) → IsNumberedTree p.document → is_edit o ≡ true → edit_of p o ≡ Ok d → at ≡ site_of p.document o
+      → OnOk r (IsEdited tell p d q old new) → OnOk r (WhereTold counts (rise ≤ most_resolving p at d)) → (AgreeButForTexts p.document d at → OnOk r (WhereTold counts (rise ≤ 0))) → OnOk r (IsAtMost counts p o rise)
+  edited_most (Err e) counts p q o d at old new rise numbered edits edited here is most free = tt
+  edited_most (Ok x) counts p q o d at old new rise numbered edits edited here is most free =
       at_most counts p q o rise (edited_accepted tell p q o d old new edits edited is).state
-      (subst (λ (n : ℕ). WhereTold counts (rise ≤ n)) (ap (λ (x : Site). most_resolving p x d) here ∙ (most_is p o d edits ∙ ap (most_between p o) (sym is.state))) most)
+      (subst (λ (n : ℕ). WhereTold counts (rise ≤ n)) (ap (λ (x : Site). cond (edits_text p o) 0 (most_resolving p x d)) here ∙ (most_is p o d edits ∙ ap (most_between p o) (sym is.state))) (by_test (edits_text p o) refl))
+    where
+      by_test : (t : Bool) → edits_text p o ≡ t → WhereTold counts (rise ≤ cond t 0 (most_resolving p at d))
+      by_test true text = free (subst (λ (x : Site). AgreeButForTexts p.document d x) (sym here) (text_agrees p o d numbered text edited))
+      by_test false other = most
 
   edited_least : (r : Result (Unit {0}) Refusal) (counts : Bool) (p q : Presentation) (o : Order) (d : Document) (old new : List I) (rise : ℕ) → is_edit o ≡ true → edit_of p o ≡ Ok d
       → OnOk r (IsEdited tell p d q old new) → OnOk r (WhereTold counts (least_editing p (edited_to p d) ≤ rise)) → OnOk r (IsAtLeast counts p o rise)
@@ -118,11 +123,12 @@ module _ {I : Type 0} (tell : Telling I) where
       at_least counts p q o rise (edited_accepted tell p q o d old new edits edited is).state
       (subst (λ (n : ℕ). WhereTold counts (n ≤ rise)) (ap (least_editing p) (sym is.state) ∙ least_is p q o edits) least)
 
-  edited_bounded : (r : Result (Unit {0}) Refusal) (counts : Bool) (p q : Presentation) (o : Order) (d : Document) (at : Site) (old new : List I) (rise : ℕ) → is_edit o ≡ true → edit_of p o ≡ Ok d → at ≡ site_of p.document o
-      → OnOk r (IsEdited tell p d q old new) → OnOk r (WhereTold counts (rise ≤ most_resolving p at d)) → OnOk r (WhereTold counts (least_editing p (edited_to p d) ≤ rise)) → IfErr r (IsTooFull (edited_to p d))
+  edited_bounded : (r : Result (Unit {0}) Refusal) (counts : Bool) (p q : Presentation) (o : Order) (d : Document) (at : Site) (old new : List I) (rise : ℕ) → IsNumberedTree p.document → is_edit o ≡ true → edit_of p o ≡ Ok d → at ≡ site_of p.document o
+      → OnOk r (IsEdited tell p d q old new) → OnOk r (WhereTold counts (rise ≤ most_resolving p at d)) → (AgreeButForTexts p.document d at → OnOk r (WhereTold counts (rise ≤ 0)))
+      → OnOk r (WhereTold counts (least_editing p (edited_to p d) ≤ rise)) → IfErr r (IsTooFull (edited_to p d))
       → KeepsToCounts counts p o r rise
-  edited_bounded r counts p q o d at old new rise edits edited here is most least refused = record {
-    most = edited_most r counts p q o d at old new rise edits edited here is most;
+  edited_bounded r counts p q o d at old new rise numbered edits edited here is most free least refused = record {
+    most = edited_most r counts p q o d at old new rise numbered edits edited here is most free;
     least = edited_least r counts p q o d old new rise edits edited is least;
     free =
         IfErr-weaker r (IsTooFull (edited_to p d)) (λ (e : Refusal). IsFree counts p o e rise)
@@ -136,14 +142,15 @@ module _ {I : Type 0} (tell : Telling I) where
     pub refused : IfErr r (Refuses formats p o)
     pub bounded : KeepsToCounts counts p o r rise
 
-  pub edit_answered : (r : Result (Unit {0}) Refusal) (counts : Bool) (p q : Presentation) (o : Order) (d : Document) (at : Site) (old new : List I) (rise : ℕ) → is_edit o ≡ true → edit_of p o ≡ Ok d → at ≡ site_of p.document o
-      → OnOk r (IsEdited tell p d q old new) → OnOk r (WhereTold counts (rise ≤ most_resolving p at d)) → OnOk r (WhereTold counts (least_editing p (edited_to p d) ≤ rise)) → IfErr r (IsTooFull (edited_to p d))
+  pub edit_answered : (r : Result (Unit {0}) Refusal) (counts : Bool) (p q : Presentation) (o : Order) (d : Document) (at : Site) (old new : List I) (rise : ℕ) → IsNumberedTree p.document → is_edit o ≡ true → edit_of p o ≡ Ok d → at ≡ site_of p.document o
+      → OnOk r (IsEdited tell p d q old new) → OnOk r (WhereTold counts (rise ≤ most_resolving p at d)) → (AgreeButForTexts p.document d at → OnOk r (WhereTold counts (rise ≤ 0)))
+      → OnOk r (WhereTold counts (least_editing p (edited_to p d) ≤ rise)) → IfErr r (IsTooFull (edited_to p d))
       → IsAnswered r counts p q o old new rise
-  edit_answered r counts p q o d at old new rise edits edited here is most least refused = record {
+  edit_answered r counts p q o d at old new rise numbered edits edited here is most free least refused = record {
     ok = on_ok_weaker r (edited_accepted tell p q o d old new edits edited) is;
     appended = on_ok_weaker r (edited_appended tell p q d old new) is;
     refused = IfErr-weaker r (IsTooFull (edited_to p d)) (Refuses formats p o) (λ e h. not_edited p o d e edits edited h) refused;
-    bounded = edited_bounded r counts p q o d at old new rise edits edited here is most least refused;
+    bounded = edited_bounded r counts p q o d at old new rise numbered edits edited here is most free least refused;
   }
 
 -- ---- a seek back

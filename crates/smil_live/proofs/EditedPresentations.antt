@@ -100,9 +100,8 @@ pub replayed_own : (q : Presentation) (s : CellsState) → IsReplayed q s → Is
 replayed_own q s is = record { presentation_is = refl; sound = is.sound; unmarked = is.unmarked; settled = is.settled }
 
 module _ {I : Type 0} (tell : Telling I) where
-  pub edited_on_ok : (r : Result (Unit {0}) Refusal) (p q : Presentation) (d : Document) (s : CellsState) (old new : List I) → IsReplayed (edited_to p d) s → OnOk r (q ≡ s.presentation) → OnOk r (new ≡ old ++ gone_told tell p s.presentation ++ told_of tell s.presentation (changes_between p s.presentation)) → OnOk r (IsEdited tell p d q old new)
-  edited_on_ok (Err e) p q d s old new is same said = tt
-  edited_on_ok (Ok x) p q d s old new is same said = record {
+  pub edited_anew : (p q : Presentation) (d : Document) (s : CellsState) (old new : List I) → IsReplayed (edited_to p d) s → q ≡ s.presentation → new ≡ old ++ gone_told tell p s.presentation ++ told_of tell s.presentation (changes_between p s.presentation) → IsEdited tell p d q old new
+  edited_anew p q d s old new is same said = record {
     state = same ∙ is.presentation_is;
     diary = s.diary;
     settled = subst (λ (t : Presentation). diary_of (course_of t) ≡ Some s.diary) (sym same) is.settled;

@@ -9,7 +9,6 @@ pub mod EditOrders
 pub mod EditedPresentations
 pub mod FullDiaries
 pub mod GrowingTexts
-pub mod KeptEntries
 pub mod LogParts
 pub mod MadeMoves
 pub mod MomentsPassed
@@ -31,6 +30,9 @@ pub mod Screens
 pub mod SettledCells
 pub mod StatesStay
 pub mod AdvanceChanges
+pub mod TextMoves
+pub mod TextReferences
+pub mod TextsApart
 pub mod ToldAnswers
 pub mod TouchedViews
 pub mod QuietAdvance

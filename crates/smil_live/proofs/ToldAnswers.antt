@@ -1,5 +1,5 @@
 -- What a presentation answers to orders that tell something.
-use Rattle.std.proofs.Common.{◌≡◌, refl, sym, ◌∙◌, ap, ℕ, ℤ, List, ◌++◌, append_assoc, Option, Some, Result, Ok, Err, OnOk, pos}
+use Rattle.std.proofs.Common.{◌≡◌, refl, sym, ◌∙◌, ap, subst, ℕ, ℤ, List, ◌++◌, append_assoc, Option, Some, Result, Ok, Err, OnOk, pos}
 use Rattle.std.specs.Prelude.{OnErr, flat_map}
 use Rattle.std.specs.Option.{option_map_or}
 use Rattle.smil_model.specs.declared.diary.Entry.{Entry}
@@ -25,11 +25,13 @@ use Rattle.smil_shown.specs.ShownViews.{IsPlaying}
 use Rattle.smil_shown.specs.ViewTable.{ViewLists}
 use Rattle.smil_shown.specs.Sets.{AreOfElements, AreSetsAmong, AreSetsOf, LayerTable}
 use Rattle.smil_live.specs.Telling.{element_named, layers_text}
+use Rattle.smil_live.specs.Texts.{IsPlayed, current}
 use Rattle.smil_shown.proofs.AllViews.{of_elements}
 use Rattle.smil_shown.proofs.SetLayers.{among}
 use Rattle.smil_shown.proofs.LineTexts.{begins_more}
 use Rattle.smil_live.proofs.OrderOutcomes.{found_named, known, none_gone}
 use Rattle.smil_live.proofs.ResolvedHistory.{resolved_is, views_are}
+use Rattle.smil_live.proofs.TextsApart.{IsTwin, cells_with, twin_of}
 
 -- ---- the views
 
@@ -123,6 +125,14 @@ named_element p d w n serial numbered same q own =
       element = kept_found d.nodes serial n here is.1;
       name = ap (λ (o : Option Node). option_map_or name_of o (who.Serial serial)) here;
     }
+
+-- the element of the document that cells were made of, which has its serial
+pub twin_named : (s : CellsState) (shown : ViewLists) (edited : Option Document) (p : Presentation) → IsPlayed s shown (current s.presentation.document edited) → (cells_with s edited).presentation ≡ p
+    → (serial : ℕ) (w : Who) (n : Node) → element_named p w ≡ Ok n → serial ≡ n.serial → IsTwin s.presentation.document.nodes serial n
+twin_named s shown edited p is view serial w n q own =
+    let d = current s.presentation.document edited in
+    let at = named_element p d w n serial (subst (λ (x : Presentation). IsNumberedTree x.document) view is.valid.numbered) (ap (λ (x : Presentation). x.document) view) q own in
+    twin_of s.presentation.document.nodes d.nodes serial n is.differ at.element
 
 history_told : (s : CellsState) (p : Presentation) (n : Node) (name : Who) → s.presentation ≡ p → IsSettled s → name ≡ name_of n
     → flat_map (told_line name) (intervals_of (history_of s) (pos s.presentation.now) n) ≡ history_text p (Some n)

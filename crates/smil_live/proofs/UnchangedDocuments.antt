@@ -1,6 +1,6 @@
--- Edits that leave the document as it was.
-use Rattle.std.proofs.Common.{◌≡◌, refl, sym, ◌∙◌, ap, ℕ, suc, ◌≤◌, ◌-◌, List, [], ◌∷◌, ◌++◌, append-nil, Bool, true, false, Option, Some, None, cond, arith}
-use Rattle.std.specs.Prelude.{◌==◌, filter, not, IsSome, OnOk, Result, Ok, Err}
+-- Edits that leave the document as it was but for plain texts.
+use Rattle.std.proofs.Common.{◌≡◌, refl, sym, ◌∙◌, ap, ℕ, suc, ◌≤◌, ◌-◌, List, [], ◌∷◌, ◌++◌, append-nil, append_assoc, Bool, true, false, Option, Some, None, cond, arith}
+use Rattle.std.specs.Prelude.{◌==◌, filter, not, IsSome}
 use Rattle.std.specs.List.{list_any}
 use Rattle.std.proofs.lemmas.Bool.{eq-eqb, eqb-true, or_left}
 use Rattle.std.proofs.lemmas.Slice.Eq.{bytes_eq-Decides}
@@ -12,7 +12,7 @@ use Rattle.smil_model.specs.document.Document.{Document, is_within, lineage, nod
 use Rattle.smil_model.specs.document.Edits.{changed_at, with_attr, without_attr}
 use Rattle.smil_model.specs.document.Valid.{IsNumberedTree}
 use Rattle.smil_model.specs.happening.Resolution.{diary_of}
-use Rattle.smil_model.specs.shown.Orders.{IsState, Presentation, at_moment, course_of}
+use Rattle.smil_model.specs.shown.Orders.{IsState, Presentation, at_moment, changed as changed_views, changes_between, course_of, views_of}
 use Rattle.smil_laws.specs.Edited.{Edit, edited, edited_node, inserts, removes, sets, unsets}
 use Rattle.smil_laws.proofs.NumberedTrees.{ordered}
 use Rattle.smil_text_laws.specs.PlainTexts.{DifferInTexts, bare, without_texts}
@@ -24,7 +24,7 @@ use Rattle.smil_tree.proofs.AttributesChanged.{serial_of}
 use Rattle.smil_tree.proofs.IdOwners.{around}
 use Rattle.smil_tree.proofs.NodeFamilies.{chain_of}
 use Rattle.smil_cells.specs.CellsState.{WhereTold}
-use Rattle.smil_live.specs.Counts.{is_saved_alike, least_editing, least_loading}
+use Rattle.smil_live.specs.Counts.{bare_document, is_saved_alike, least_editing, least_loading}
 use Rattle.smil_live.specs.Editing.{IsEdited}
 use Rattle.smil_live.specs.Moves.{edited_to, told_of}
 use Rattle.smil_live.specs.Sites.{IsMade}
@@ -32,13 +32,14 @@ use Rattle.smil_live.specs.declared.edits.Site.TheVariants as site
 use Rattle.smil_live.proofs.AdvanceChanges.{same_unchanged}
 use Rattle.smil_live.proofs.OrderOutcomes.{none_gone}
 use Rattle.smil_live.proofs.QuietViews.{HasDiary}
+use Rattle.smil_live.proofs.TextsApart.{gone_same, room_same, shown_same}
 
 -- ---- a node with other attributes
 
 some_node : (n m : Node) → Some n ≡ Some m → n ≡ m
 some_node n m e = cc
 
-changed_node : (change : Attrs → Attrs) (s : ℕ) (ns : List Node) (old : Node) → node_at ns s ≡ Some old → node_at (changed_at change s ns) s ≡ Some (with_attrs change old)
+pub changed_node : (change : Attrs → Attrs) (s : ℕ) (ns : List Node) (old : Node) → node_at ns s ≡ Some old → node_at (changed_at change s ns) s ≡ Some (with_attrs change old)
 changed_node change s [] old at = cc
 changed_node change s (n ∷ ns) old at = step (n.serial == s) refl at (changed_node change s ns old)
   where
@@ -53,16 +54,6 @@ changed_node change s (n ∷ ns) old at = step (n.serial == s) refl at (changed_
     step false e at rest =
         ap (λ (t : Bool). cond ((edit t).serial == s) (Some (edit t)) (node_at (changed_at change s ns) s)) e
         ∙ (ap (λ (t : Bool). cond t (Some n) (node_at (changed_at change s ns) s)) e ∙ rest at)
-
--- where the node has the same attributes then, the document is as it was
-same_attrs : (change : Attrs → Attrs) (before : Document) (s : ℕ) (old new : Node) → IsNumberedTree before → node_at before.nodes s ≡ Some old
-    → node_at (changed_at change s before.nodes) s ≡ Some new → new.attrs ≡ old.attrs → record before { nodes = changed_at change s before.nodes } ≡ before
-same_attrs change before s old new numbered at there same =
-    let one : with_attrs change old ≡ new = some_node (with_attrs change old) new (sym (changed_node change s before.nodes old at) ∙ there) in
-    let attrs : change old.attrs ≡ old.attrs = ap (λ (n : Node). n.attrs) one ∙ same in
-    let node : with_attrs change old ≡ old = ap (λ (a : Attrs). record old { attrs = a }) attrs in
-    let a = around change s before.nodes old numbered.distinct at in
-    ap (λ (ns : List Node). record before { nodes = ns }) (a.after ∙ (ap (λ (n : Node). a.front ++ n ∷ a.back) node ∙ sym a.before))
 
 -- where its plain texts alone are others, the documents differ in these alone
 other_texts : (change : Attrs → Attrs) (before : Document) (s : ℕ) (old new : Node) → IsNumberedTree before → node_at before.nodes s ≡ Some old
@@ -119,13 +110,7 @@ changed before after s old new numbered made at there = by_edit made.edit made.d
         let here : edited before (removes s) ≡ after = ap (λ (k : ℕ). edited before (removes k)) (sym serial) ∙ is in
         absurd (not_left (is_within before.nodes s) s before.nodes new (own_within before s old numbered at) (ap (λ (d : Document). node_at d.nodes s) here ∙ there))
 
-pub stays : (before after : Document) (s : ℕ) (old new : Node) → IsNumberedTree before → IsMade before (site.Old s) after → node_at before.nodes s ≡ Some old → node_at after.nodes s ≡ Some new
-    → new.attrs ≡ old.attrs → after ≡ before
-stays before after s old new numbered made at there same =
-    let to = changed before after s old new numbered made at there in
-    sym to.is ∙ same_attrs to.change before s old new numbered at (ap (λ (d : Document). node_at d.nodes s) to.is ∙ there) same
-
--- where its plain texts alone are others, so it is of the documents
+-- so it is of one that is edited
 pub differ : (before after : Document) (s : ℕ) (old new : Node) → IsNumberedTree before → IsMade before (site.Old s) after → node_at before.nodes s ≡ Some old → node_at after.nodes s ≡ Some new
     → new.attrs ≡ record old.attrs { texts = new.attrs.texts } → DifferInTexts before.nodes after.nodes
 differ before after s old new numbered made at there same =
@@ -140,26 +125,35 @@ told_on None h = cc
 told_on (Some d) h = (d, refl)
 
 module _ {I : Type 0} (tell : Telling I) where
-  pub stayed : (p : Presentation) (d : Document) (out : List I) → d ≡ p.document → IsState p → IsSome (diary_of (course_of p)) → IsEdited tell p d p out out
-  stayed p d out same state settled =
-      let has = told_on (diary_of (course_of p)) settled in
+  none_told_of : (p : Presentation) (d : Document) → DifferInTexts p.document.nodes d.nodes → IsState p → (has : (entries : List Entry) × (diary_of (course_of p) ≡ Some entries))
+      → gone_told tell p (edited_to p d) ++ told_of tell (edited_to p d) (changes_between p (edited_to p d)) ≡ []
+  none_told_of p d differ state has =
       let diary : HasDiary p has.0 = record { numbered = state.document.numbered; logged = state.logged; settled = has.1 } in
+      let gone : gone_told tell p (edited_to p d) ≡ [] = sym (gone_same p d differ tell (edited_to p d)) ∙ none_gone tell (edited_to p d) (edited_to p d) refl in
+      ap (λ (l : List I). l ++ told_of tell (edited_to p d) (changes_between p (edited_to p d))) gone
+      ∙ ap (λ (vs : List View). told_of tell (edited_to p d) (at_moment p.now (changed_views (views_of p) vs))) (shown_same p d differ)
+      ∙ ap (λ (vs : List View). told_of tell (edited_to p d) (at_moment p.now vs)) (same_unchanged p has.0 diary)
+
+  pub retold : (p : Presentation) (d : Document) (out : List I) → DifferInTexts p.document.nodes d.nodes → IsState p → IsSome (diary_of (course_of p)) → IsEdited tell p d (edited_to p d) out out
+  retold p d out differ state settled =
+      let has = told_on (diary_of (course_of p)) settled in
       record {
-        state = ap (edited_to p) (sym same);
+        state = refl;
         diary = has.0;
-        settled = has.1;
+        settled = room_same p d differ ∙ has.1;
         told =
-            sym (append-nil out) ∙ ap (λ (l : List I). out ++ l) (sym (none_gone tell p p refl))
-            ∙ (sym (append-nil (out ++ gone_told tell p p))
-            ∙ ap (λ (vs : List View). out ++ gone_told tell p p ++ told_of tell p (at_moment p.now vs)) (sym (same_unchanged p has.0 diary)));
+            sym (append-nil out) ∙ ap (λ (l : List I). out ++ l) (sym (none_told_of p d differ state has))
+            ∙ sym (append_assoc out (gone_told tell p (edited_to p d)) (told_of tell (edited_to p d) (changes_between p (edited_to p d))));
       }
 
-alike : (p : Presentation) (d : Document) → d ≡ p.document → is_saved_alike p.document d ≡ true
-alike p d same = (bytes_eq-Decides (formats.saved p.document) (formats.saved d)).1 (ap formats.saved (sym same))
+alike : (p : Presentation) (d : Document) → DifferInTexts p.document.nodes d.nodes → d.next ≡ p.document.next → is_saved_alike p.document d ≡ true
+alike p d differ next =
+    let same : bare_document p.document ≡ bare_document d = λ i. record { nodes = differ i; next = sym next i } in
+    (bytes_eq-Decides (formats.saved (bare_document p.document)) (formats.saved (bare_document d))).1 (ap formats.saved same)
 
-pub least_stayed : (counts : Bool) (p : Presentation) (d : Document) (rise : ℕ) → d ≡ p.document → WhereTold counts (least_editing p (edited_to p d) ≤ rise)
-least_stayed false p d rise same = tt
-least_stayed true p d rise same = let none : ◌≡◌ {A = ℕ} (least_editing p (edited_to p d)) 0 = ap (λ (t : Bool). cond t 0 (least_loading (edited_to p d))) (alike p d same) in omega (arith, none)
+pub least_retold : (counts : Bool) (p : Presentation) (d : Document) (rise : ℕ) → DifferInTexts p.document.nodes d.nodes → d.next ≡ p.document.next → WhereTold counts (least_editing p (edited_to p d) ≤ rise)
+least_retold false p d rise differ next = tt
+least_retold true p d rise differ next = let none : ◌≡◌ {A = ℕ} (least_editing p (edited_to p d)) 0 = ap (λ (t : Bool). cond t 0 (least_loading (edited_to p d))) (alike p d differ next) in omega (arith, none)
 
 pub none_told : (counts : Bool) (steps most : ℕ) → WhereTold counts (steps - steps ≤ most)
 none_told false steps most = tt
@@ -169,7 +163,6 @@ fewer : (t : Bool) (n rise : ℕ) → n ≤ rise → cond t 0 n ≤ rise
 fewer true n rise h = omega arith
 fewer false n rise h = h
 
-pub least_edited : {A E : Type 0} (r : Result A E) (counts : Bool) (p q : Presentation) (rise : ℕ) → WhereTold counts (least_loading q ≤ rise) → OnOk r (WhereTold counts (least_editing p q ≤ rise))
-least_edited (Err e) counts p q rise h = tt
-least_edited (Ok x) false p q rise h = tt
-least_edited (Ok x) true p q rise h = fewer (is_saved_alike p.document q.document) (least_loading q) rise h
+pub least_edited : (counts : Bool) (p q : Presentation) (rise : ℕ) → WhereTold counts (least_loading q ≤ rise) → WhereTold counts (least_editing p q ≤ rise)
+least_edited false p q rise h = tt
+least_edited true p q rise h = fewer (is_saved_alike p.document q.document) (least_loading q) rise h

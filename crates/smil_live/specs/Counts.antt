@@ -2,16 +2,22 @@
 use Rattle.std.specs.Prelude.{ℕ, ◌+◌, pos, nat_abs, nat_lt, List, drop, length, Bool, true, false, if◌then◌else◌, Option, Some, None, Result, Ok, Err}
 use Rattle.std.specs.Str.{bytes_eq}
 use Rattle.smil_model.specs.declared.diary.Entry.{Entry}
+use Rattle.smil_model.specs.declared.document.Attr.{Attr}
+use Rattle.smil_model.specs.declared.document.Attr.TheVariants as attr
+use Rattle.smil_model.specs.declared.document.AttrName.{AttrName}
+use Rattle.smil_model.specs.declared.document.AttrName.TheVariants as name
 use Rattle.smil_model.specs.declared.document.Node.{Node}
 use Rattle.smil_model.specs.declared.interval.Interval.{Interval}
 use Rattle.smil_model.specs.declared.order.Order.{Order}
 use Rattle.smil_model.specs.declared.order.Order.TheVariants as order
 use Rattle.smil_model.specs.declared.order.Refusal.{Refusal}
-use Rattle.smil_model.specs.document.Document.{Document, elements, time_parent}
+use Rattle.smil_model.specs.document.Document.{Document, elements, node_at, time_parent}
+use Rattle.smil_model.specs.document.Valid.{kind_of}
 use Rattle.smil_model.specs.interval.Current.{current_interval}
 use Rattle.smil_model.specs.reach.Bounds.{reaches, through_begin}
-use Rattle.smil_model.specs.shown.Orders.{Presentation, node_of, outcome, resolved_history}
+use Rattle.smil_model.specs.shown.Orders.{Presentation, node_of, on_node, outcome, resolved_history}
 use Rattle.smil_grammar.specs.Formats.{formats}
+use Rattle.smil_text_laws.specs.PlainTexts.{bare}
 use Rattle.smil_cells.specs.CellsState.{any_interval, fresh}
 use Rattle.smil_revision.specs.References.{keeps_references}
 
@@ -84,16 +90,42 @@ agreed before after given =
     agreed_under (keeps_references edited before.document.nodes after.nodes)
     (time_parent (nodes_with before.document after given) edited) (diary_at before)
 
--- each element once, and the reaches of the entries that do not stay
+-- whether an attribute is a plain text, on which no time depends
+abbrev pub is_text : Result Attr Refusal → Bool
+is_text (Ok (attr.Text given text)) = true
+is_text _ = false
+
+abbrev pub is_text_name : Result AttrName Refusal → Bool
+is_text_name (Ok (name.Text given)) = true
+is_text_name _ = false
+
+-- whether an order sets a plain text of a node, or takes one away
+abbrev pub edits_text : Presentation → Order → Bool
+edits_text p (order.Set who name value name_column column) =
+    is_text (on_node p who (λ (n : Node). formats.read_attr n.kind
+    (kind_of (node_at p.document.nodes n.parent)) name value name_column column))
+edits_text p (order.Unset who name column) =
+    is_text_name (on_node p who (λ (n : Node). formats.read_name n.kind name column))
+edits_text p _ = false
+
+-- none where a plain text is edited, and else each element once, and the reaches of the entries
+-- that do not stay
 abbrev pub most_editing : Presentation → Presentation → Order → ℕ
 most_editing before after given =
-    element_count after + reached_behind (agreed before after.document given) after
+    if edits_text before given then 0
+    else element_count after + reached_behind (agreed before after.document given) after
 
--- whether two documents are saved as the same text
+-- a document with every plain text absent
+abbrev pub bare_document : Document → Document
+bare_document document = record document { nodes = bare document.nodes }
+
+-- whether two documents are saved as the same text but for plain texts
 abbrev pub is_saved_alike : Document → Document → Bool
-is_saved_alike one other = bytes_eq (formats.saved one) (formats.saved other)
+is_saved_alike one other =
+    bytes_eq (formats.saved (bare_document one)) (formats.saved (bare_document other))
 
--- none where the document stays as it was, and else the elements that then have an interval
+-- none where the document stays as it was but for plain texts, and else the elements that then have
+-- an interval
 abbrev pub least_editing : Presentation → Presentation → ℕ
 least_editing before after =
     if is_saved_alike before.document after.document then 0 else least_loading after

@@ -5,7 +5,7 @@ pub mod Editing
 pub mod Moves
 pub mod Recorded
 pub mod Sites
-pub mod Kept
+pub mod Texts
 pub mod Sought
 pub mod Telling
 pub mod WorkedCounts

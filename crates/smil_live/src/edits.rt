@@ -1,6 +1,6 @@
 //! Orders that edit the document.
 
-ghost use Rattle.std.specs.Prelude.{◌≡◌, ◌≤◌, ◌-◌, ◌++◌, drop, length, true, Ok, Option, OnOk, OnErr, IfOk, IfErr};
+ghost use Rattle.std.specs.Prelude.{◌≡◌, ◌≤◌, ◌-◌, ◌++◌, ◌↔◌, IsTrue, drop, length, true, Ok, Option, OnOk, OnErr, IfOk, IfErr};
 ghost use Rattle.smil_model.specs.declared.document.Node.{Node as AnyNode};
 ghost use Rattle.smil_model.specs.declared.order.Order.TheVariants as order;
 ghost use Rattle.smil_model.specs.document.Document.{serial_of, time_parent};
@@ -15,14 +15,15 @@ ghost use Rattle.smil_live.specs.Counted.{KeepsToCounts};
 ghost use Rattle.smil_live.specs.Counts.{agreed_under, least_editing, least_loading, serial_or_0};
 ghost use Rattle.smil_live.specs.Editing.{IsEdited, edit_of};
 ghost use Rattle.smil_shown.specs.ShownViews.{IsPlaying};
-ghost use Rattle.smil_live.specs.Kept.{IsKept};
 ghost use Rattle.smil_live.specs.Moves.{IsReplayed, IsTooFull, edited_to, told_of};
 ghost use Rattle.smil_revision.specs.References.{keeps_references};
 ghost use Rattle.smil_text_laws.specs.PlainTexts.{DifferInTexts};
+ghost use Rattle.smil_live.specs.Texts.{AgreeButForTexts};
 ghost use Rattle.smil_live.specs.Sites.{IsMade, most_resolving, site_nodes, site_serial, staying};
 
 use super::presentation::PresentationOver;
 use super::replay::{cells_with, diary_through};
+use super::viewer::Viewer;
 use smil_cells::{Cells, Table};
 use smil_diary::Book;
 use smil_graph::Revised;
@@ -31,12 +32,12 @@ use smil_interval::Steps;
 use smil_model::{GrowingList, Refusal, Who};
 use smil_report::ChangeItem;
 use smil_revision::{
-    Child, LineText, Revision, Setting, agree_but_for_texts, have_same_attrs, keeps_references,
-    with_child, with_value, without_name, without_node,
+    Child, LineText, Revision, Setting, agree_but_for_texts, keeps_references, with_child,
+    with_value, without_name, without_node,
 };
 use smil_shown::{Scene, ViewTable, put_all_gone, put_differences};
 use smil_tree::Tree;
-use std::alloc::AllocError;
+use std::alloc::{AllocError, Global};
 use std::mem::swap;
 use std::sync::ledger::Ledger;
 
@@ -80,6 +81,7 @@ impl<T: Table> PresentationOver<T> {
             (order.Set who.now setting.entry.attr.text.now setting.entry.value.text.now
             setting.entry.attr.column setting.entry.value.column) result (steps.new - steps.old) }
     {
+        self.settled();
         let edited = self.set_copy(who, setting)?;
         self.take_edited(edited, out, steps)
     }
@@ -107,6 +109,7 @@ impl<T: Table> PresentationOver<T> {
             (order.Unset who.now attr.entry.text.now attr.entry.column) result
             (steps.new - steps.old) }
     {
+        self.settled();
         let edited = self.unset_copy(who, attr)?;
         self.take_edited(edited, out, steps)
     }
@@ -135,6 +138,7 @@ impl<T: Table> PresentationOver<T> {
         ensures bounded { KeepsToCounts T.counts self.old (order.Insert who.now child.entry.place
             child.entry.line.text.now child.entry.line.column) result (steps.new - steps.old) }
     {
+        self.settled();
         let edited = self.insert_copy(who, child)?;
         self.take_edited(edited, out, steps)
     }
@@ -158,6 +162,7 @@ impl<T: Table> PresentationOver<T> {
         ensures bounded { KeepsToCounts T.counts self.old (order.Remove who.now) result
             (steps.new - steps.old) }
     {
+        self.settled();
         let edited = self.remove_copy(who)?;
         self.take_edited(edited, out, steps)
     }
@@ -175,8 +180,7 @@ impl<T: Table> PresentationOver<T> {
             (order.Set who.now setting.entry.attr.text.now setting.entry.value.text.now
             setting.entry.attr.column setting.entry.value.column))) }
     {
-        let tree = self.viewer.cells.tree();
-        tree.valid();
+        let tree = self.tree();
         let serial = self.node(who)?;
         let copy = with_value(self.alloc, tree, serial, setting)?;
         Ok(EditedCopy {
@@ -195,8 +199,7 @@ impl<T: Table> PresentationOver<T> {
         ensures err { IfErr result (IsRefusedBy
             (edit_of self.now (order.Unset who.now attr.entry.text.now attr.entry.column))) }
     {
-        let tree = self.viewer.cells.tree();
-        tree.valid();
+        let tree = self.tree();
         let serial = self.node(who)?;
         let copy = without_name(tree, serial, attr)?;
         Ok(EditedCopy {
@@ -217,8 +220,7 @@ impl<T: Table> PresentationOver<T> {
             (order.Insert who.now child.entry.place child.entry.line.text.now
             child.entry.line.column))) }
     {
-        let tree = self.viewer.cells.tree();
-        tree.valid();
+        let tree = self.tree();
         let parent = self.node(who)?;
         let copy = with_child(self.alloc, tree, parent, child)?;
         Ok(EditedCopy {
@@ -235,8 +237,7 @@ impl<T: Table> PresentationOver<T> {
             ≡ Site.Old (serial_or_0 (node_of self.now.document.nodes who.now))) }
         ensures err { IfErr result (IsRefusedBy (edit_of self.now (order.Remove who.now))) }
     {
-        let tree = self.viewer.cells.tree();
-        tree.valid();
+        let tree = self.tree();
         let serial = self.node(who)?;
         let copy = without_node(tree, serial)?;
         Ok(EditedCopy {
@@ -245,8 +246,9 @@ impl<T: Table> PresentationOver<T> {
         })
     }
 
-    // Resolves an edited document with the same log from the part of the diary that stays, tells
-    // what is gone and what has changed, and goes on with it; nothing where it is as it was.
+    // Goes on with an edited document: where its plain texts alone are others, all else stays; or
+    // it is resolved with the same log from the part of the diary that stays, and what is gone and
+    // what has changed is told.
     fn take_edited<I: ChangeItem, L: Ledger>(
         &mut self,
         edited: EditedCopy,
@@ -262,54 +264,35 @@ impl<T: Table> PresentationOver<T> {
         ensures counted { steps.old ≤ steps.new }
         ensures most { OnOk result (WhereTold T.counts
             (steps.new - steps.old ≤ most_resolving self.old edited.site edited.tree)) }
+        ensures free { AgreeButForTexts self.old.document edited.tree edited.site
+            → OnOk result (WhereTold T.counts (steps.new - steps.old ≤ 0)) }
         ensures least { OnOk result (WhereTold T.counts
             (least_editing self.old (edited_to self.old edited.tree) ≤ steps.new - steps.old)) }
     {
         let EditedCopy { tree, site } = edited;
-        if self.stays_by(&tree, site) {
+        if self.changes_texts_alone(&tree, site) {
             self.settled();
+            tree.valid();
+            self.edited = Some(tree);
             return Ok(());
         }
         let mut cells = self.edited_cells(tree, site, steps)?;
-        self.take_over(&mut cells, out)
+        self.viewer.take_over(self.alloc, &mut cells, out)?;
+        self.edited = None;
+        Ok(())
     }
 
-    // Whether an edit leaves the document as it was.
-    fn stays_by(&self, edited: &Tree, site: Site) -> bool
+    // Whether an edit changes plain texts alone, on which no time depends, or nothing.
+    fn changes_texts_alone(&self, edited: &Tree, site: Site) -> bool
         requires { IsMade self.now.document site edited.now }
-        ensures { result ≡ true → edited.now ≡ self.now.document }
+        ensures alone { IsTrue result ↔ AgreeButForTexts self.now.document edited.now site }
+        ensures differ { result ≡ true → DifferInTexts self.now.document.nodes edited.now.nodes }
+        ensures next { result ≡ true → edited.now.next ≡ self.now.document.next }
     {
         match site {
-            Site::Old(serial) => have_same_attrs(self.viewer.cells.tree(), edited, serial),
+            Site::Old(serial) => agree_but_for_texts(self.tree(), edited, serial),
             Site::New => false,
         }
-    }
-
-    // Tells which elements other cells have no longer and which views differ by them, and puts them
-    // in the place of its own, which `cells` holds then. Where memory runs out all is as before.
-    pub(crate) fn take_over<I: ChangeItem>(
-        &mut self,
-        cells: &mut Cells<T>,
-        out: &mut GrowingList<I>,
-    ) -> Result<(), Refusal>
-        requires state { IsState cells.old.presentation }
-        requires replayed { IsReplayed cells.old.presentation cells.old }
-        ensures state { OnOk result (self.new ≡ cells.old.presentation) }
-        ensures told { OnOk result (out.new ≡ out.old ++ gone_told I.telling self.old cells.old.presentation
-            ++ told_of I.telling cells.old.presentation (changes_between self.old cells.old.presentation)) }
-        ensures refused { IfErr result (λ refusal. refusal ≡ Refusal.Memory) }
-        ensures kept { OnErr result (self.new ≡ self.old) }
-        ensures text { OnErr result (out.new ≡ out.old) }
-    {
-        let seen = ViewTable::of(self.alloc, cells)?;
-        let len = out.len();
-        if self.put_edited(cells, &seen, out).is_err() {
-            out.cut_back(len);
-            return Err(Refusal::Memory);
-        }
-        swap(&mut self.viewer.cells, cells);
-        self.viewer.seen = seen;
-        Ok(())
     }
 
     // The cells of an edited document, resolved with the same log from the part of the diary that
@@ -332,33 +315,8 @@ impl<T: Table> PresentationOver<T> {
     {
         edited.valid();
         let revised = self.viewer.cells.past().graph().revised(edited)?;
-        let len = self.entries_kept(&revised, site)?;
+        let len = self.staying(&revised, site)?;
         cells_with(&self.viewer.cells, revised.graph, len, steps)
-    }
-
-    // How many entries of the diary are kept by an edit, unless memory runs out: all where it
-    // changes plain texts alone, and else those that stay.
-    fn entries_kept(&self, revised: &Revised, site: Site) -> Result<usize, AllocError>
-        requires made { IsMade self.now.document site (document_of revised.now.graph) }
-        requires alike { revised.now.alike ≡ true
-            → all_reduced self.now.document.nodes ≡ all_reduced revised.now.graph.nodes }
-        ensures { IfOk result (IsKept self.now (document_of revised.now.graph) site) }
-    {
-        if self.changes_texts_alone(revised.graph.tree(), site) {
-            return Ok(self.viewer.cells.book().len());
-        }
-        self.staying(revised, site)
-    }
-
-    // Whether an edit changes plain texts alone, on which no time depends.
-    fn changes_texts_alone(&self, edited: &Tree, site: Site) -> bool
-        requires { IsMade self.now.document site edited.now }
-        ensures { result ≡ true → DifferInTexts self.now.document.nodes edited.now.nodes }
-    {
-        match site {
-            Site::Old(serial) => agree_but_for_texts(self.viewer.cells.tree(), edited, serial),
-            Site::New => false,
-        }
     }
 
     // How many entries of the diary stay by an edit, unless memory runs out: those up to the first
@@ -370,7 +328,7 @@ impl<T: Table> PresentationOver<T> {
             → all_reduced self.now.document.nodes ≡ all_reduced revised.now.graph.nodes }
         ensures { IfOk result (λ len. len ≡ staying self.now (document_of revised.now.graph) site) }
     {
-        let (serial, parent) = edited_node(self.viewer.cells.tree(), revised.graph.tree(), site);
+        let (serial, parent) = edited_node(self.tree(), revised.graph.tree(), site);
         let keeps = self.keeps_references(serial, revised)?;
         Ok(entries_staying(self.viewer.cells.book(), keeps, parent))
     }
@@ -392,6 +350,41 @@ impl<T: Table> PresentationOver<T> {
         };
         keeps_references(self.alloc, revision)
     }
+}
+
+impl<T: Table> Viewer<T> {
+    /// Tells which elements other cells have no longer and which views differ by them, and puts
+    /// them in the place of its own, which `cells` holds then. Where memory runs out all is as
+    /// before.
+    pub(crate) fn take_over<I: ChangeItem>(
+        &mut self,
+        alloc: Global,
+        cells: &mut Cells<T>,
+        out: &mut GrowingList<I>,
+    ) -> Result<(), Refusal>
+        requires playing { IsPlaying self.old.cells self.old.seen }
+        requires state { IsState cells.old.presentation }
+        requires replayed { IsReplayed cells.old.presentation cells.old }
+        ensures cells { OnOk result (self.new.cells ≡ cells.old) }
+        ensures playing { OnOk result (IsPlaying self.new.cells self.new.seen) }
+        ensures told { OnOk result (out.new ≡ out.old
+            ++ gone_told I.telling self.old.cells.presentation cells.old.presentation
+            ++ told_of I.telling cells.old.presentation
+            (changes_between self.old.cells.presentation cells.old.presentation)) }
+        ensures refused { IfErr result (λ refusal. refusal ≡ Refusal.Memory) }
+        ensures kept { OnErr result (self.new ≡ self.old) }
+        ensures text { OnErr result (out.new ≡ out.old) }
+    {
+        let seen = ViewTable::of(alloc, cells)?;
+        let len = out.len();
+        if self.put_edited(cells, &seen, out).is_err() {
+            out.cut_back(len);
+            return Err(Refusal::Memory);
+        }
+        swap(&mut self.cells, cells);
+        self.seen = seen;
+        Ok(())
+    }
 
     // Tells the elements that are gone, and the views that differ.
     fn put_edited<I: ChangeItem>(
@@ -400,14 +393,17 @@ impl<T: Table> PresentationOver<T> {
         seen: &ViewTable,
         out: &mut GrowingList<I>,
     ) -> Result<(), AllocError>
-        requires playing { IsPlaying cells.now seen.now }
-        ensures ok { OnOk result (out.new ≡ out.old ++ gone_told I.telling self.now cells.now.presentation
-            ++ told_of I.telling cells.now.presentation (changes_between self.now cells.now.presentation)) }
+        requires before { IsPlaying self.now.cells self.now.seen }
+        requires after { IsPlaying cells.now seen.now }
+        ensures ok { OnOk result (out.new ≡ out.old
+            ++ gone_told I.telling self.now.cells.presentation cells.now.presentation
+            ++ told_of I.telling cells.now.presentation
+            (changes_between self.now.cells.presentation cells.now.presentation)) }
         ensures err { OnErr result (Begins out.old out.new) }
     {
         let now = cells.moment();
         let before = Scene {
-            tree: self.viewer.cells.tree(),
+            tree: self.cells.tree(),
             moment: now,
         };
         put_all_gone(before, cells.tree(), out)?;
@@ -415,7 +411,7 @@ impl<T: Table> PresentationOver<T> {
             tree: cells.tree(),
             moment: now,
         };
-        put_differences(after, &self.viewer.seen, seen, out)
+        put_differences(after, &self.seen, seen, out)
     }
 }
 

@@ -91,25 +91,8 @@ impl<T: Table> PresentationOver<T> {
             out.old out.new steps.old steps.new }
     {
         self.settled();
-        let mut cells = self.made_at(to, steps)?;
-        self.take_over(&mut cells, out)
-    }
-
-    // The cells of an earlier moment, with the entries of the diary up to it. All stays as it is.
-    fn made_at<L: Ledger>(&mut self, to: i64, steps: &mut Steps<L>) -> Result<Cells<T>, Refusal>
-        requires clock { is_clock to ≡ true }
-        requires back { to <ℤ pos self.old.now }
-        ensures same { self.new ≡ self.old }
-        ensures ok { IfOk result (IsReplayed (sought_of self.old to)) }
-        ensures refused { IfErr result (IsTooFull (sought_of self.old to)) }
-        ensures state { IsState (sought_of self.old to) }
-        ensures counted { steps.old ≤ steps.new }
-        ensures most { OnOk result (WhereTold T.counts
-            (steps.new - steps.old ≤ length_of (elements self.old.document.nodes))) }
-        ensures least { OnOk result (WhereTold T.counts
-            (least_loading (sought_of self.old to) ≤ steps.new - steps.old)) }
-    {
-        cells_at(&mut self.viewer.cells, to, steps)
+        let mut cells = cells_at(&mut self.viewer.cells, to, steps)?;
+        self.viewer.take_over(self.alloc, &mut cells, out)
     }
 
     /// An event happens on an element at the present moment. `NoElement` where there is no such
@@ -147,7 +130,7 @@ impl<T: Table> PresentationOver<T> {
             self.new out.old out.new steps.old steps.new }
     {
         let serial = self.node(who)?;
-        if !is_continuous(self.viewer.cells.tree().kind(serial)) {
+        if !is_continuous(self.tree().kind(serial)) {
             return Err(Refusal::NotContinuous);
         }
         let what = Happening::Media {

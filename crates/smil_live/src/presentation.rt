@@ -28,6 +28,7 @@ use smil_nodes::LiveTable;
 use smil_report::{ChangeItem, Changes};
 use smil_revision::{Child, LineText, Setting};
 use smil_shown::{Scene, ViewTable, put_differences};
+use smil_tree::Tree;
 use std::alloc::Global;
 use std::marker::Model;
 use std::sync::ledger::Ledger;
@@ -41,6 +42,8 @@ pub type Presentation = PresentationOver<LiveTable>;
 /// them.
 pub struct PresentationOver<T: Table> {
     pub viewer: Viewer<T>,
+    /// The document, where its plain texts are no longer those that the cells were made of.
+    pub edited: Option<Tree>,
     pub alloc: Global,
 }
 
@@ -49,6 +52,7 @@ impl<T: Table> Drop for PresentationOver<T> {
     fn drop(self) {
         let PresentationOver {
             viewer: _viewer,
+            edited: _edited,
             alloc: _alloc,
         } = self;
     }
@@ -56,13 +60,16 @@ impl<T: Table> Drop for PresentationOver<T> {
 
 impl<T: Table> Model for PresentationOver<T> {
     ghost use Rattle.smil_model.specs.shown.Orders.{Presentation as State};
-    ghost use Rattle.smil_shown.specs.ShownViews.{IsPlaying};
+    ghost use Rattle.smil_text_laws.specs.PlainTexts.{with_document};
+    ghost use Rattle.smil_live.specs.Texts.{IsPlayed, current};
 
     ghost Value = { State };
 
-    ghost view = { λ p. p.viewer.cells.presentation };
+    ghost view = { λ p. with_document p.viewer.cells.presentation
+        (current p.viewer.cells.presentation.document p.edited) };
 
-    ghost invariant = { λ p. IsPlaying p.viewer.cells p.viewer.seen };
+    ghost invariant = { λ p. IsPlayed p.viewer.cells p.viewer.seen
+        (current p.viewer.cells.presentation.document p.edited) };
 }
 
 impl<T: Table> PresentationOver<T> {
@@ -107,8 +114,22 @@ impl<T: Table> PresentationOver<T> {
         let seen = put_first(alloc, &cells, out)?;
         Ok(PresentationOver {
             viewer: Viewer { cells, seen },
+            edited: None,
             alloc,
         })
+    }
+
+    /// The document. It takes no memory.
+    pub fn tree(&self) -> &Tree
+        ensures document { result.now ≡ self.now.document }
+        ensures valid { IsValid result.now }
+    {
+        let tree = match &self.edited {
+            Some(tree) => tree,
+            None => self.viewer.cells.tree(),
+        };
+        tree.valid();
+        tree
     }
 
     /// The serial of a node. `NoElement` where there is no such node.
@@ -120,7 +141,7 @@ impl<T: Table> PresentationOver<T> {
         ensures err { IfErr result (λ refusal. found (node_of self.now.document.nodes who.now)
             ≡ Err refusal) }
     {
-        match self.viewer.cells.tree().find(who) {
+        match self.tree().find(who) {
             Some(serial) => Ok(serial),
             None => Err(Refusal::NoElement),
         }
@@ -135,7 +156,7 @@ impl<T: Table> PresentationOver<T> {
         ensures err { IfErr result (λ refusal. element_named self.now who.now ≡ Err refusal) }
     {
         let serial = self.node(who)?;
-        if self.viewer.cells.tree().kind(serial).is_element() {
+        if self.tree().kind(serial).is_element() {
             Ok(serial)
         } else {
             Err(Refusal::BadPlace)
@@ -261,7 +282,7 @@ impl<T: Table> Player for PresentationOver<T> {
     }
 
     fn find(&self, who: &Who) -> Option<u32> {
-        self.viewer.cells.tree().find(who)
+        self.tree().find(who)
     }
 
     fn on_screen(&self, index: usize) -> Option<OnScreen> {

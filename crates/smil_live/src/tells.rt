@@ -93,7 +93,7 @@ impl<T: Table> PresentationOver<T> {
         ensures begins { Begins out.old out.new }
     {
         let scene = Scene {
-            tree: self.viewer.cells.tree(),
+            tree: self.tree(),
             moment: self.viewer.cells.moment(),
         };
         put_views(scene, &self.viewer.seen, out)
@@ -105,7 +105,7 @@ impl<T: Table> PresentationOver<T> {
             ++ answer_text formats self.now self.now order.Text) }
         ensures begins { Begins out.old out.new }
     {
-        put_outline(self.viewer.cells.tree(), out)
+        put_outline(self.tree(), out)
     }
 
     // Appends the outline of the document with its serials.
@@ -114,7 +114,7 @@ impl<T: Table> PresentationOver<T> {
             ++ answer_text formats self.now self.now order.Save) }
         ensures begins { Begins out.old out.new }
     {
-        put_saved_outline(self.viewer.cells.tree(), out)
+        put_saved_outline(self.tree(), out)
     }
 
     // Appends the intervals of an element. `NoElement` where there is no such node, `BadPlace`
@@ -141,7 +141,7 @@ impl<T: Table> PresentationOver<T> {
     {
         let subject = Subject {
             serial,
-            name: name_of(self.viewer.cells.tree(), serial),
+            name: name_of(self.tree(), serial),
         };
         put_intervals(self.alloc, &self.viewer.cells, subject, out)
     }
@@ -152,7 +152,7 @@ impl<T: Table> PresentationOver<T> {
             ++ answer_text formats self.now self.now order.Values) }
         ensures begins { Begins out.old out.new }
     {
-        let tree = self.viewer.cells.tree();
+        let tree = self.tree();
         let sets = Sets::of(self.alloc, tree, self.viewer.seen.views())?;
         put_all_values(LayeredDocument { tree, sets: &sets }, out)
     }
@@ -177,7 +177,7 @@ impl<T: Table> PresentationOver<T> {
             → OnOk result (out.new ≡ out.old ++ stack_text self.now attr.now (Some n)) }
         ensures begins { Begins out.old out.new }
     {
-        let tree = self.viewer.cells.tree();
+        let tree = self.tree();
         let sets = Sets::of(self.alloc, tree, self.viewer.seen.views())?;
         put_layers(LayeredDocument { tree, sets: &sets }, target, attr, out)
     }

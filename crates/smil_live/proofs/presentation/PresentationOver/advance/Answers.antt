@@ -13,6 +13,7 @@ use Rattle.smil_live.proofs.AnsweredOrders.{accepted, refused_too_full}
 use Rattle.smil_live.proofs.CountedOrders.{bounded_accepted}
 use Rattle.smil_live.proofs.OrderOutcomes.{advanced_to, clock_from, not_above, not_advanced}
 use Rattle.smil_shown.proofs.PresentMoments.{within_horizon}
+use Rattle.smil_live.proofs.TextsApart.{cells_playing}
 use Rattle.smil_live.proofs.presentation.PresentationOver.advance.Given.{Over}
 use Rattle.smil_live.proofs.presentation.PresentationOver.advance.Goals as goal
 use Rattle.smil_live.proofs.presentation.PresentationOver.advance.Goals.{After-go}
@@ -22,7 +23,7 @@ there : (g : Over) (c : After-go g) → to_z w64 (of_z w64 (to_z w64 (of_z w64 c
 there g c =
     let p = c.args.self.now in
     let given = clock_from c.args.by c.requires in
-    let most = within_horizon p (subst IsState c.self.view_is c.self.invariant.shown_is.state) in
+    let most = within_horizon p (subst IsState c.self.view_is (cells_playing c.self.inside.viewer.cells c.self.inside.viewer.seen c.self.inside.edited c.self.invariant).shown_is.state) in
     let now : c.moment.result ≡ pos p.now = subst (λ (q : Presentation). c.moment.result ≡ pos q.now) c.self.view_is c.moment.ensures in
     omega (arith, ints, given.0, given.1, most, now)
 

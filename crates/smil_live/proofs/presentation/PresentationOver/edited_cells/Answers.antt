@@ -1,5 +1,4 @@
-use Rattle.std.proofs.Common.{◌≡◌, ◌∙◌, sym, ap, subst}
-use Rattle.std.proofs.lemmas.Result.{on_ok_weaker}
+use Rattle.std.proofs.Common.{◌≡◌, ◌∙◌, sym, ap, subst, ℕ}
 use Rattle.std.specs.Prelude.{IfErr, IfOk, OnOk, ◌-◌, ◌≤◌}
 use Rattle.smil_model.specs.document.Document.{Document}
 use Rattle.smil_model.specs.document.Valid.{IsValid}
@@ -9,40 +8,43 @@ use Rattle.smil_graph.specs.Graph.{document_of}
 use Rattle.smil_graph.specs.Reduced.{all_reduced}
 use Rattle.smil_cells.specs.CellsState.{WhereTold}
 use Rattle.smil_live.specs.Counts.{least_loading}
-use Rattle.smil_live.specs.Kept.{IsKept}
 use Rattle.smil_live.specs.Moves.{IsReplayed, IsTooFull}
-use Rattle.smil_live.specs.Sites.{IsMade}
-use Rattle.smil_live.proofs.AgreedCells.{IsEditedAt, edited_count, edited_is, edited_rebuild, edited_stands, edited_way, told_more}
+use Rattle.smil_live.specs.Sites.{IsMade, staying}
+use Rattle.smil_live.specs.Texts.{current}
+use Rattle.smil_live.proofs.AgreedCells.{IsEditedAt, edited_count, edited_is, edited_rebuild, edited_stands, edited_way}
 use Rattle.smil_live.proofs.EditedPresentations.{edited_state, on_ok_always}
+use Rattle.smil_live.proofs.TextReferences.{reduced_same}
+use Rattle.smil_live.proofs.TextsApart.{cells_playing, cells_with, rebuilds_own, rebuilt_with}
 use Rattle.smil_live.proofs.presentation.PresentationOver.edited_cells.Given.{Over}
 use Rattle.smil_live.proofs.presentation.PresentationOver.edited_cells.Goals as goal
 use Rattle.smil_live.proofs.presentation.PresentationOver.edited_cells.Goals.{In_ok-len}
 
 -- the edited copy, and how many entries are kept by the edit
-edit : (g : Over) (c : In_ok-len g) → IsEditedAt c.self.inside.viewer.cells c.self.inside.viewer.seen c.args.self.now (document_of c.in_ok-revised.revised.graph) c.args.edited c.args.site c.in_ok-len.len
+edit : (g : Over) (c : In_ok-len g) → IsEditedAt (cells_with c.self.inside.viewer.cells c.self.inside.edited) c.self.inside.viewer.seen c.args.self.now (document_of c.in_ok-revised.revised.graph) c.args.edited c.args.site c.in_ok-len.len
 edit g c =
     let same = c.in_ok-revised.ensures.document in
     record {
-      is = c.self.invariant;
+      is = cells_playing c.self.inside.viewer.cells c.self.inside.viewer.seen c.self.inside.edited c.self.invariant;
       view = c.self.view_is;
       same = same;
       valid = subst IsValid (sym same) c.valid.ensures;
       made = c.requires;
-      count = subst (λ (x : Document). IsKept c.args.self.now x c.args.site c.in_ok-len.len) same c.in_ok-len.ensures;
+      count = subst (λ (x : Document). c.in_ok-len.len ≡ staying c.args.self.now x c.args.site) same c.in_ok-len.ensures;
     }
 
 pub cells_with-requires-clause-state : goal.cells_with-requires-clause-state
 cells_with-requires-clause-state g c = edited_stands (edit g (goal.at.cells_with-requires-clause-state g c).In_ok-len)
 
 pub cells_with-requires-clause-rebuild : goal.cells_with-requires-clause-rebuild
-cells_with-requires-clause-rebuild g c = edited_rebuild (edit g (goal.at.cells_with-requires-clause-rebuild g c).In_ok-len)
+cells_with-requires-clause-rebuild g c = rebuilds_own c.self.inside.viewer.cells c.self.inside.edited (edited_rebuild (edit g (goal.at.cells_with-requires-clause-rebuild g c).In_ok-len))
 
 pub cells_with-requires-clause-way : goal.cells_with-requires-clause-way
-cells_with-requires-clause-way g c = edited_way (edit g (goal.at.cells_with-requires-clause-way g c).In_ok-len)
+cells_with-requires-clause-way g c = λ t rebuilt.
+    edited_way (edit g (goal.at.cells_with-requires-clause-way g c).In_ok-len) t (rebuilt_with c.self.inside.viewer.cells c.self.inside.edited rebuilt)
 
 pub returns-clause-state : goal.returns-clause-state
 returns-clause-state g c =
-    on_ok_always c.cells_with.result (edited_state c.args.self.now c.args.edited (subst IsState c.self.view_is c.self.invariant.shown_is.state) c.valid.ensures)
+    on_ok_always c.cells_with.result (edited_state c.args.self.now c.args.edited (subst IsState c.self.view_is (cells_playing c.self.inside.viewer.cells c.self.inside.viewer.seen c.self.inside.edited c.self.invariant).shown_is.state) c.valid.ensures)
 
 pub returns-clause-ok : goal.returns-clause-ok
 returns-clause-ok g c =
@@ -58,8 +60,9 @@ returns-clause-refused g c =
 
 pub returns-clause-most : goal.returns-clause-most
 returns-clause-most g c =
-    let few = edited_count (edit g (goal.at.returns-clause-most g c).In_ok-len) in
-    on_ok_weaker c.cells_with.result (λ most. told_more g.T.Table.counts (c.cells_with.new.steps - c.args.steps.now) _ _ few most) c.cells_with.ensures.most
+    subst (λ (n : ℕ). OnOk c.cells_with.result (WhereTold g.T.Table.counts (c.cells_with.new.steps - c.args.steps.now ≤ n)))
+    (edited_count (edit g (goal.at.returns-clause-most g c).In_ok-len))
+    c.cells_with.ensures.most
 
 pub returns-clause-least : goal.returns-clause-least
 returns-clause-least g c =
@@ -67,11 +70,13 @@ returns-clause-least g c =
     (edited_is (edit g (goal.at.returns-clause-least g c).In_ok-len))
     c.cells_with.ensures.least
 
-pub entries_kept-requires-clause-made : goal.entries_kept-requires-clause-made
-entries_kept-requires-clause-made g c =
+pub staying-requires-clause-made : goal.staying-requires-clause-made
+staying-requires-clause-made g c =
     subst (λ (x : Document). IsMade c.args.self.now.document c.args.site x) (sym c.in_ok-revised.ensures.document) c.requires
 
-pub entries_kept-requires-clause-alike : goal.entries_kept-requires-clause-alike
-entries_kept-requires-clause-alike g c alike =
-    let same : c.graph.result.now.nodes ≡ c.args.self.now.document.nodes = c.graph.ensures ∙ (ap (λ (h : History). h.nodes) c.past.ensures ∙ ap (λ (q : Presentation). q.document.nodes) c.self.view_is) in
-    ap all_reduced (sym same) ∙ c.in_ok-revised.ensures.alike alike
+pub staying-requires-clause-alike : goal.staying-requires-clause-alike
+staying-requires-clause-alike g c alike =
+    let same : c.graph.result.now.nodes ≡ c.self.inside.viewer.cells.presentation.document.nodes = c.graph.ensures ∙ ap (λ (h : History). h.nodes) c.past.ensures in
+    ap (λ (p : Presentation). all_reduced p.document.nodes) (sym c.self.view_is)
+    ∙ (sym (reduced_same c.self.inside.viewer.cells.presentation.document.nodes (current c.self.inside.viewer.cells.presentation.document c.self.inside.edited).nodes c.self.invariant.differ)
+    ∙ (ap all_reduced (sym same) ∙ c.in_ok-revised.ensures.alike alike))

@@ -8,6 +8,7 @@ use Rattle.smil_live.specs.Moves.{told_of}
 use Rattle.smil_live.proofs.GrowingTexts.{is_appended}
 use Rattle.smil_live.proofs.OrderOutcomes.{heard_as}
 use Rattle.smil_shown.proofs.PresentMoments.{within_horizon}
+use Rattle.smil_live.proofs.TextsApart.{cells_playing}
 use Rattle.smil_live.proofs.presentation.PresentationOver.hear.Goals as goal
 
 pub returns : goal.returns
@@ -17,7 +18,7 @@ returns g c =
     let what = c.args.what in
     let rise = c.go.new.steps - c.args.steps.now in
     let moved = c.in_ok-go.ensures in
-    let most = within_horizon p (subst IsState c.self.view_is c.self.invariant.shown_is.state) in
+    let most = within_horizon p (subst IsState c.self.view_is (cells_playing c.self.inside.viewer.cells c.self.inside.viewer.seen c.self.inside.edited c.self.invariant).shown_is.state) in
     let now : c.moment-moment.result ≡ pos p.now = subst (λ (x : Presentation). c.moment-moment.result ≡ pos x.now) c.self.view_is c.moment-moment.ensures in
     let there : to_z w64 (of_z w64 c.moment-moment.result) ≡ pos p.now = omega (arith, ints, most, now) in
     let long : c.len.result ≡ length p.log = c.len.ensures ∙ ap length (c.log.ensures ∙ ap (λ (x : Presentation). x.log) c.self.view_is) in

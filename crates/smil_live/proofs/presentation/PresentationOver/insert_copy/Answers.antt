@@ -1,9 +1,9 @@
-use Rattle.std.proofs.Common.{◌≡◌, Result, ap, inr, ◌∙◌}
+use Rattle.std.proofs.Common.{◌≡◌, Result, inr, ◌∙◌}
 use Rattle.smil_model.specs.declared.document.Node.{Node}
 use Rattle.smil_model.specs.declared.order.Refusal.{Refusal}
 use Rattle.smil_model.specs.document.Document.{Document}
 use Rattle.smil_model.specs.document.Limits.{limits}
-use Rattle.smil_model.specs.shown.Orders.{Presentation, node_inserted_by, on_node}
+use Rattle.smil_model.specs.shown.Orders.{node_inserted_by, on_node}
 use Rattle.smil_grammar.specs.Formats.{formats}
 use Rattle.smil_tree.proofs.ResultClauses.{on_err}
 use Rattle.smil_revision.specs.Editing.{at_node}
@@ -26,13 +26,13 @@ with_child-requires-clause-column g c = c.requires.2
 
 pub with_child-requires-clause-known : goal.with_child-requires-clause-known
 with_child-requires-clause-known g c =
-    let same = c.tree-tree.ensures ∙ ap (λ (p : Presentation). p.document) c.self.view_is in
-    node_there c.args.self.now c.tree-tree.result.now c.args.who.now c.in_ok-parent.parent c.valid.ensures same c.in_ok-parent.ensures.ok
+    let same = c.tree-tree.ensures.document in
+    node_there c.args.self.now c.tree-tree.result.now c.args.who.now c.in_ok-parent.parent c.tree-tree.ensures.valid same c.in_ok-parent.ensures.ok
 
 -- the edit is that of the node that is named
 there : (g : Over) (c : After-with_child g) → on_node c.args.self.now c.args.who.now (made c.args.child c.args.self.now.document) ≡ at_node c.tree-tree.result.now.nodes c.in_ok-parent.parent (made c.args.child c.tree-tree.result.now)
 there g c =
-    edit_there c.args.self.now c.tree-tree.result.now c.args.who.now c.in_ok-parent.parent (made c.args.child) c.valid.ensures (c.tree-tree.ensures ∙ ap (λ (p : Presentation). p.document) c.self.view_is) c.in_ok-parent.ensures.ok
+    edit_there c.args.self.now c.tree-tree.result.now c.args.who.now c.in_ok-parent.parent (made c.args.child) c.tree-tree.ensures.valid (c.tree-tree.ensures.document) c.in_ok-parent.ensures.ok
 
 pub returns-clause-ok : goal.returns-clause-ok
 returns-clause-ok g c = there g (goal.at.returns-clause-ok g c).After-with_child ∙ c.in_ok-copy.ensures.ok

@@ -3,7 +3,7 @@ use Rattle.std.specs.Prelude.{IsSome}
 use Rattle.smil_model.specs.document.Document.{Document, is_continuous, node_at}
 use Rattle.smil_model.specs.document.Valid.{IsNumberedTree, kind_of}
 use Rattle.smil_model.specs.document.Limits.{limits}
-use Rattle.smil_model.specs.shown.Orders.{Presentation, outcome, with_logged as logged_within}
+use Rattle.smil_model.specs.shown.Orders.{outcome, with_logged as logged_within}
 use Rattle.std.proofs.lemmas.Int.{to_z-of_z}
 use Rattle.smil_model.specs.declared.diary.Happening.TheVariants as happening
 use Rattle.smil_model.specs.declared.order.Order.TheVariants as order
@@ -17,15 +17,15 @@ use Rattle.smil_live.proofs.presentation.PresentationOver.media.Goals.{After-hea
 
 pub kind-requires : goal.kind-requires
 kind-requires g c =
-    let same : c.tree.result.now ≡ c.args.self.now.document = c.tree.ensures ∙ ap (λ (p : Presentation). p.document) c.self.view_is in
+    let same : c.tree.result.now ≡ c.args.self.now.document = c.tree.ensures.document in
     subst (λ (d : Document). IsSome (node_at d.nodes c.in_ok-serial.serial)) (sym same) c.in_ok-serial.ensures.known
 
 -- the kind is that of the node that is named
 kind : (g : Over) (c : After-kind g) → c.kind.result ≡ (c.in_ok-serial.ensures.ok).0.kind
 kind g c =
-    let same = c.tree.ensures ∙ ap (λ (p : Presentation). p.document) c.self.view_is in
+    let same = c.tree.ensures.document in
     let h = c.in_ok-serial.ensures.ok in
-    kind_named c.args.self.now.document c.args.who.now h.0 c.in_ok-serial.serial c.kind.result (subst (λ (p : Presentation). IsNumberedTree p.document) c.self.view_is c.self.invariant.shown_is.state.document.numbered) h.1 h.2
+    kind_named c.args.self.now.document c.args.who.now h.0 c.in_ok-serial.serial c.kind.result (subst IsNumberedTree c.tree.ensures.document c.tree.ensures.valid.numbered) h.1 h.2
     (c.kind.ensures ∙ ap (λ (d : Document). kind_of (node_at d.nodes c.in_ok-serial.serial)) same)
 
 pub hear-requires : goal.hear-requires

@@ -6,6 +6,7 @@ use Rattle.std.proofs.lemmas.Result.{on_ok_weaker}
 use Rattle.smil_model.specs.shown.Orders.{Presentation}
 use Rattle.smil_grammar.specs.Formats.{formats}
 use Rattle.smil_live.proofs.ToldAnswers.{diary_told, kept_diary}
+use Rattle.smil_live.proofs.TextsApart.{cells_playing, cells_with}
 use Rattle.smil_live.proofs.presentation.PresentationOver.put_diary.Goals as goal
 
 pub returns-clause-told : goal.returns-clause-told
@@ -14,7 +15,7 @@ returns-clause-told g c =
     let fits : SFits w64 c.moment.result = search rules in
     let at : to_z w64 (of_z w64 c.moment.result) ≡ pos c.args.self.now.now = to_z-of_z w64 c.moment.result fits ∙ c.moment.ensures ∙ ap (λ (q : Presentation). pos q.now) c.self.view_is in
     let logs = c.log.ensures ∙ ap (λ (q : Presentation). q.log) c.self.view_is in
-    let books = c.book.ensures ∙ kept_diary c.self.inside.viewer.cells p c.self.invariant.shown_is.settled c.self.view_is in
+    let books = c.book.ensures ∙ kept_diary (cells_with c.self.inside.viewer.cells c.self.inside.edited) p (cells_playing c.self.inside.viewer.cells c.self.inside.viewer.seen c.self.inside.edited c.self.invariant).shown_is.settled c.self.view_is in
     on_ok_weaker c.put_now.result
     (λ four.
     diary_told formats p c.log.result.now c.book.result.now (to_z w64 (of_z w64 c.moment.result)) c.args.out.now c.put_saved.new.out c.put_outline_end.new.out c.put_entries.new.out c.put_now.new.out logs books at

@@ -18,8 +18,9 @@ take_edited-requires g c = subst (λ (x : Site). IsMade c.args.self.now.document
 
 answered : (g : Over) (c : After-take_edited g) → IsAnswered g.I.ChangeItem.telling c.take_edited.result g.T.Table.counts c.args.self.now c.take_edited.new.self (order.Remove c.args.who.now) c.args.out.now c.take_edited.new.out (c.take_edited.new.steps - c.args.steps.now)
 answered g c =
-    edit_answered g.I.ChangeItem.telling c.take_edited.result g.T.Table.counts c.args.self.now c.take_edited.new.self (order.Remove c.args.who.now) c.in_ok-edited.edited.tree c.in_ok-edited.edited.site c.args.out.now c.take_edited.new.out (c.take_edited.new.steps - c.args.steps.now) refl
-    c.in_ok-edited.ensures.ok c.in_ok-edited.ensures.site c.take_edited.ensures.ok c.take_edited.ensures.most c.take_edited.ensures.least c.take_edited.ensures.refused
+    edit_answered g.I.ChangeItem.telling c.take_edited.result g.T.Table.counts c.args.self.now c.take_edited.new.self (order.Remove c.args.who.now) c.in_ok-edited.edited.tree c.in_ok-edited.edited.site c.args.out.now c.take_edited.new.out (c.take_edited.new.steps - c.args.steps.now)
+    c.settled.ensures.state.document.numbered refl
+    c.in_ok-edited.ensures.ok c.in_ok-edited.ensures.site c.take_edited.ensures.ok c.take_edited.ensures.most c.take_edited.ensures.free c.take_edited.ensures.least c.take_edited.ensures.refused
 
 pub returns-clause-ok : goal.returns-clause-ok
 returns-clause-ok g c = (answered g (goal.at.returns-clause-ok g c).After-take_edited).ok

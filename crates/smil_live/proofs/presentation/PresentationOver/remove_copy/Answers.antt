@@ -1,5 +1,5 @@
 use Rattle.std.proofs.Common.{◌≡◌, ap, inr, sym, ◌∙◌}
-use Rattle.smil_model.specs.shown.Orders.{Presentation, node_removed_from, on_node}
+use Rattle.smil_model.specs.shown.Orders.{node_removed_from, on_node}
 use Rattle.smil_tree.proofs.ResultClauses.{on_err}
 use Rattle.smil_revision.specs.Editing.{at_node}
 use Rattle.smil_live.proofs.EditedPresentations.{edit_there, node_there, refused_at}
@@ -12,13 +12,13 @@ use Rattle.smil_live.proofs.presentation.PresentationOver.remove_copy.Goals.{Aft
 
 pub without_node-requires : goal.without_node-requires
 without_node-requires g c =
-    let same = c.tree-tree.ensures ∙ ap (λ (p : Presentation). p.document) c.self.view_is in
-    node_there c.args.self.now c.tree-tree.result.now c.args.who.now c.in_ok-serial.serial c.valid.ensures same c.in_ok-serial.ensures.ok
+    let same = c.tree-tree.ensures.document in
+    node_there c.args.self.now c.tree-tree.result.now c.args.who.now c.in_ok-serial.serial c.tree-tree.ensures.valid same c.in_ok-serial.ensures.ok
 
 -- the edit is that of the node that is named
 there : (g : Over) (c : After-without_node g) → on_node c.args.self.now c.args.who.now (node_removed_from c.args.self.now.document) ≡ at_node c.tree-tree.result.now.nodes c.in_ok-serial.serial (node_removed_from c.tree-tree.result.now)
 there g c =
-    edit_there c.args.self.now c.tree-tree.result.now c.args.who.now c.in_ok-serial.serial node_removed_from c.valid.ensures (c.tree-tree.ensures ∙ ap (λ (p : Presentation). p.document) c.self.view_is) c.in_ok-serial.ensures.ok
+    edit_there c.args.self.now c.tree-tree.result.now c.args.who.now c.in_ok-serial.serial node_removed_from c.tree-tree.ensures.valid (c.tree-tree.ensures.document) c.in_ok-serial.ensures.ok
 
 pub returns-clause-ok : goal.returns-clause-ok
 returns-clause-ok g c = there g (goal.at.returns-clause-ok g c).After-without_node ∙ c.in_ok-copy.ensures.ok

@@ -14,6 +14,7 @@ use Rattle.smil_live.proofs.CountedOrders.{seek_bounded}
 use Rattle.smil_live.proofs.OrderOutcomes.{clock_from, not_above, moved_as_sought, not_sought, sought, within_sought}
 use Rattle.smil_live.proofs.SettledCells.{state_then}
 use Rattle.smil_shown.proofs.PresentMoments.{within_horizon}
+use Rattle.smil_live.proofs.TextsApart.{cells_playing}
 use Rattle.smil_live.proofs.presentation.PresentationOver.seek.Given.{Over}
 use Rattle.smil_live.proofs.presentation.PresentationOver.seek.Goals as goal
 use Rattle.smil_live.proofs.presentation.PresentationOver.seek.Goals.{After-go}
@@ -28,7 +29,7 @@ onward p to moment state there now not_below =
 
 from : (g : Over) (c : After-go g) → pos c.args.self.now.now ≤ℤ c.args.to
 from g c =
-    onward c.args.self.now c.args.to c.moment.result (subst IsState c.self.view_is c.self.invariant.shown_is.state) (to_z-of_z w64 c.args.to c.ranges.to)
+    onward c.args.self.now c.args.to c.moment.result (subst IsState c.self.view_is (cells_playing c.self.inside.viewer.cells c.self.inside.viewer.seen c.self.inside.edited c.self.invariant).shown_is.state) (to_z-of_z w64 c.args.to c.ranges.to)
     (subst (λ (q : Presentation). c.moment.result ≡ pos q.now) c.self.view_is c.moment.ensures) c.if-to-moment.false
 
 pub returns : goal.returns
@@ -54,7 +55,7 @@ returns-in_err-go g c =
     let p = c.args.self.now in
     let to = c.args.to in
     let there : to_z w64 (of_z w64 to) ≡ to = to_z-of_z w64 to c.ranges.to in
-    let state : IsState p = subst IsState c.self.view_is c.self.invariant.shown_is.state in
+    let state : IsState p = subst IsState c.self.view_is (cells_playing c.self.inside.viewer.cells c.self.inside.viewer.seen c.self.inside.edited c.self.invariant).shown_is.state in
     let given = c.in_err-go.field-0.0 in
     let full = as_of p (nat_abs to) in
     let too_full : IsTooFull full given = subst (λ (z : ℤ). IsTooFull (as_of p (nat_abs z)) given) there c.in_err-go.ensures.refused in
