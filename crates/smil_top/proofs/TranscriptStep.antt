@@ -2,7 +2,7 @@
 use Rattle.std.proofs.Common.{◌≡◌, ◌⊎◌, ℕ, ◌+◌, ◌<◌, ◌≤◌, suc, min, length, Bool, true, false, List, [], ◌∷◌, ◌++◌, Option, Some, None, Result, Ok, Err, refl, ap, sym, subst, ◌∙◌, arith, inl, inr, Bor}
 use Rattle.std.proofs.lemmas.List.{append-nil, length-append}
 use Rattle.std.proofs.lemmas.List.Sums.{sum_by-append}
-use Rattle.std.specs.Prelude.{cond, option_map, ◌&&◌, ◌||◌, ◌==◌, if◌then◌else◌}
+use Rattle.std.specs.Prelude.{cond, option_map, is_some, ◌&&◌, ◌||◌, ◌==◌, if◌then◌else◌}
 use Rattle.smil_model.specs.declared.limits.TheConstants.{LINE_BYTES}
 use Rattle.smil_model.specs.declared.order.Refusal.{Refusal}
 use Rattle.smil_model.specs.declared.order.Refusal.TheVariants.{LongLine, Memory, UnfinishedLoad}
@@ -247,6 +247,11 @@ load-of load wanted at lines stands is = open-some load wanted lines (subst (λ 
 
 pub no_load-of : (wanted : Wanted) (at : Option Load) (lines : Option LoadLines) → IsOpen at wanted lines → at ≡ None → lines ≡ None
 no_load-of wanted at lines stands is = open-none wanted lines (subst (λ o. IsOpen o wanted lines) is stands)
+
+-- where no load is open
+pub none-open : (at : Option Load) → is_some at ≡ false → at ≡ None
+none-open None none = refl
+none-open (Some load) none = cc
 
 -- ---- a line
 

@@ -55,9 +55,18 @@ impl LastLine {
         requires { length name.now ≤ NAME_BYTES }
         ensures { result ≡ ok_line line name.now now }
     {
-        let mut buf = [0; LAST_LINE_BYTES];
-        let len = put_ok(&mut buf, line, name, now);
-        LastLine { buf, len }
+        let mut made = LastLine::none();
+        made.put_ok(line, name, now);
+        made
+    }
+
+    /// Puts the line of an order in place of the one before: its first line has this number, and
+    /// the presentation of this name is at this moment.
+    pub fn put_ok(&mut self, line: u32, name: &[u8], now: i64)
+        requires { length name.now ≤ NAME_BYTES }
+        ensures { self.new ≡ ok_line line name.now now }
+    {
+        self.len = put_ok(&mut self.buf, line, name, now);
     }
 
     /// The line of an order at this line that closed the presentation of this name.

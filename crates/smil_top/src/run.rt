@@ -78,13 +78,16 @@ impl Run {
             steps.old steps.new }
     {
         self.answer.clear();
-        match self.load.take() {
-            Some(load) => self.line_inside(load, next, sink, steps),
-            None => self.line_outside(next, sink, steps),
+        // Looked at first, so that no load is moved where none is open.
+        if self.load.is_none() {
+            return self.line_outside(next, sink, steps);
         }
+        let load = self.load.take().unwrap();
+        self.line_inside(load, next, sink, steps)
     }
 
     // A line inside a load.
+    #[inline(never)]
     fn line_inside<K: Sink, L: Ledger>(
         &mut self,
         load: Load,

@@ -219,7 +219,7 @@ impl Session {
         let now = self
             .house
             .answer(named.name, named.order, &mut answer.told, steps)?;
-        answer.last = LastLine::ok(number, named.name, now);
+        answer.last.put_ok(number, named.name, now);
         Ok(())
     }
 

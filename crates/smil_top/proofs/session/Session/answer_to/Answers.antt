@@ -23,7 +23,7 @@ returns-clause-answer g c session keeps =
     let text : List ℕ = drop (length c.args.answer.now.told) told in
     let is : told ≡ text = c.in_ok-now.ensures.appended ∙ ap (λ (a : AnswerText). a.told ++ text) c.requires.empty in
     let now : to_z w64 (of_z w64 c.in_ok-now.now) ≡ c.in_ok-now.now = omega (arith, ints) in
-    let last : c.ok-answer.result ≡ ok_line number name c.in_ok-now.now = c.ok-answer.ensures ∙ ap (ok_line number name) now in
+    let last : c.put_ok.new.self ≡ ok_line number name c.in_ok-now.now = c.put_ok.ensures ∙ ap (ok_line number name) now in
     let made = made-ordered name order so_far new session number keeps text told (c.answer.new.steps - c.args.steps.now) c.in_ok-now.now is c.in_ok-now.ensures.ok in
     subst (λ l. Makes (Ok tt) (record { told = told; last = l }) (in_house so_far new) session (ordered_within limits session number name order)) (sym last) made
 
