@@ -15,7 +15,7 @@ use Rattle.smil_model.specs.document.Defaults.{begin_list, end_list, items_of, i
 use Rattle.smil_model.specs.document.Dependencies.{all_items, feeds, feeds_node, has_implicit_duration, is_looped, is_looped_to, is_sync_with, leads_to}
 use Rattle.smil_model.specs.document.Document.{ancestors, element_named, elements, has_id, has_kind, has_serial, is_element, is_excl_kind, is_in_excl, is_seq_kind, is_time_child, just_before, node_at, previous_child, previous_in_seq, serial_of, serials, target, time_children, time_parent, upwards}
 use Rattle.smil_model.specs.reach.Reach.{is_event_of, is_key_item, is_option, reads, reads_node}
-use Rattle.smil_graph.specs.Graph.{follows_unlooped, is_looped_item, readers_of}
+use Rattle.smil_graph.specs.Graph.{follows, follows_by_item, follows_unlooped, followers_of, is_looped_item, readers_of}
 use Rattle.smil_graph.specs.Places.{has_element, is_element_at, reads_from, reads_place}
 use Rattle.smil_graph.specs.Reduced.{all_reduced, reduced, reduced_attrs, reduced_item, reduced_items}
 use Rattle.smil_graph.specs.Tables.{waits}
@@ -316,6 +316,17 @@ module _ (ns : List Node) where
 
   pub readers_reduced : (x : ℕ) → readers_of us x ≡ readers_of ns x
   readers_reduced x = ap (filter (reads us x)) (element_serials_reduced ns) ∙ filter_each (reads us x) (reads ns x) (reads_reduced x) (serials (elements ns))
+
+  follows_by_item_reduced : (x : ℕ) (e : Node) → follows_by_item us x (reduced e) ≡ follows_by_item ns x e
+  follows_by_item_reduced x e =
+      ap (λ b. b || (list_any (is_sync_with us x) (all_items us (reduced e)) && not (leads_to us e.serial x))) (follows_previous_reduced x e)
+      ∙ ap (λ b. has_serial x (previous_in_seq ns e.serial) || (b && not (leads_to us e.serial x))) (any_item (is_sync_with us x) (is_sync_with ns x) (sync_reduced x) e)
+      ∙ ap (λ b. has_serial x (previous_in_seq ns e.serial) || (list_any (is_sync_with ns x) (all_items ns e) && not b)) (leads_to_reduced e.serial x)
+
+  pub followers_reduced : (x : ℕ) → followers_of us x ≡ followers_of ns x
+  followers_reduced x =
+      ap (filter (follows us x)) (element_serials_reduced ns)
+      ∙ filter_each (follows us x) (follows ns x) (λ y. any_element y (follows_by_item us x) (follows_by_item ns x) (follows_by_item_reduced x)) (serials (elements ns))
 
   pub reads_place_reduced : (j i : ℕ) → reads_place us j i ≡ reads_place ns j i
   reads_place_reduced j i = ap (λ o. reads_from us o (slice_get us i)) (get_reduced ns j) ∙ ap (reads_from us (option_map reduced (slice_get ns j))) (get_reduced ns i) ∙ by_nodes (slice_get ns j) (slice_get ns i)

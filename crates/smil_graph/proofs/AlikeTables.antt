@@ -1,7 +1,7 @@
 -- What a graph keeps of a document it keeps of each one that is alike.
 use Rattle.std.proofs.Common.{◌≡◌, refl, sym, ◌∙◌, ap, subst, ℕ, suc, List, [], ◌∷◌, length, Bool, true, false, Option, Some, None, arith}
-use Rattle.std.specs.Prelude.{cond, ◌==◌, ◌&&◌, drop, filter, option_map, reverse, slice_get, slice_index_or}
-use Rattle.std.specs.List.{AllByRecursion, range_with_len}
+use Rattle.std.specs.Prelude.{cond, ◌==◌, ◌&&◌, drop, filter, option_map, reverse, slice_get, slice_index, slice_index_or}
+use Rattle.std.specs.List.{AllByRecursion, list_any, range_with_len}
 use Rattle.std.specs.List.Sorted.{IsPermutation}
 use Rattle.smil_model.specs.declared.document.Edge.{Edge}
 use Rattle.smil_model.specs.declared.document.Edge.TheVariants.{Begin, End}
@@ -13,11 +13,11 @@ use Rattle.smil_model.specs.reach.Reach.{is_option}
 use Rattle.smil_laws.proofs.AsideDocuments.{each_drop, each_reverse, find_each}
 use Rattle.smil_tree.proofs.NodeFamilies.{node_of_place}
 use Rattle.smil_graph.specs.declared.tables.Tables.{Tables}
-use Rattle.smil_graph.specs.Graph.{follows_unlooped, is_looped_item, readers_of, IsGraphOrder}
+use Rattle.smil_graph.specs.Graph.{follows_unlooped, followers_of, has_rank, is_looped_item, readers_of, IsGraphOrder}
 use Rattle.smil_graph.specs.Places.{at_place, is_element_at, reads_place, up, IsTable, AreTimeChildren}
 use Rattle.smil_graph.specs.Reduced.{all_reduced, reduced}
-use Rattle.smil_graph.specs.Tables.{waits, AreHeads, AreMarks, AreReaders, AreTables, AreWaiting}
-use Rattle.smil_graph.proofs.AlikeDocuments.{count_reduced, element_at_reduced, element_serials_reduced, filter_each, follows_reduced, get_reduced, is_element_at_reduced, mark_reduced, readers_reduced, reads_place_reduced, time_parent_reduced, waits_reduced}
+use Rattle.smil_graph.specs.Tables.{waits, AreFollowerRanks, AreHeads, AreMarks, AreReaderRanks, AreReaders, AreTables, AreWaiting}
+use Rattle.smil_graph.proofs.AlikeDocuments.{count_reduced, element_at_reduced, element_serials_reduced, filter_each, followers_reduced, follows_reduced, get_reduced, is_element_at_reduced, mark_reduced, readers_reduced, reads_place_reduced, time_parent_reduced, waits_reduced}
 
 each_from : (P : Node → Type 0) (ns : List Node) → ((p : ℕ) (n : Node) → slice_get ns p ≡ Some n → P n) → AllByRecursion P ns
 each_from P [] f = tt
@@ -133,6 +133,18 @@ module _ (old new : List Node) (alike : all_reduced old ≡ all_reduced new) whe
       let n = twin_at i m at in
       are i n.0 n.1 ∙ ap (readers_of old) (ap (λ (x : Node). x.serial) n.2) ∙ across (λ ns. readers_of ns m.serial) (λ ns. readers_reduced ns m.serial) old new alike
 
+  reader_ranks_alike : (order : List ℕ) (rows : List (List ℕ)) → AreReaderRanks old order rows → AreReaderRanks new order rows
+  reader_ranks_alike order rows are = record {
+    long = are.long;
+    each = λ rank r l. are.each rank r l ∙ ap (list_any (has_rank order r)) (across (λ ns. readers_of ns (slice_index order rank)) (λ ns. readers_reduced ns (slice_index order rank)) old new alike);
+  }
+
+  follower_ranks_alike : (order : List ℕ) (rows : List (List ℕ)) → AreFollowerRanks old order rows → AreFollowerRanks new order rows
+  follower_ranks_alike order rows are = record {
+    long = are.long;
+    each = λ rank r l. are.each rank r l ∙ ap (list_any (has_rank order r)) (across (λ ns. followers_of ns (slice_index order rank)) (λ ns. followers_reduced ns (slice_index order rank)) old new alike);
+  }
+
   waiting_alike : (rows : List (List ℕ)) → AreWaiting old rows → AreWaiting new rows
   waiting_alike rows are = record {
     long = are.long;
@@ -151,4 +163,6 @@ tables_alike old new distinct alike t are = record {
   waiting = waiting_alike old.nodes new.nodes alike t.waiting.items are.waiting;
   ordered = order_alike old.nodes new.nodes alike t.order are.ordered;
   ranked = are.ranked;
+  read_ranked = reader_ranks_alike old.nodes new.nodes alike t.order t.reader_ranks are.read_ranked;
+  followed = follower_ranks_alike old.nodes new.nodes alike t.order t.follower_ranks are.followed;
 }

@@ -182,7 +182,7 @@ module _ (nodes : List Node) (distinct : IsDistinct nodes) where
   -- ---- items
 
   module _ (named : List ℕ → Option ℕ) (ids : IsIndex nodes (element_named nodes) named) where
-    sync_is : (i : ℕ) (x : Node) → slice_get nodes i ≡ Some x → (item : Item) → is_sync_with nodes x.serial item ≡ is_option i (named_by named item)
+    pub sync_is : (i : ℕ) (x : Node) → slice_get nodes i ≡ Some x → (item : Item) → is_sync_with nodes x.serial item ≡ is_option i (named_by named item)
     sync_is i x a (Offset o) = refl
     sync_is i x a (Sync who edge o) = ap (has_serial x.serial) (ids.node who) ∙ has_at i x (named who) a
     sync_is i x a _ = refl

@@ -132,7 +132,7 @@ module _ (nodes : List Node) (distinct : IsDistinct nodes) (index : ℕ → Opti
           (no_item (is_sync_with nodes s) no_sync (all_items nodes e)))
           (no_item (is_event_of nodes e.serial s) (no_event j e b) (all_items nodes e))
 
-      none_reads : (y : ℕ) → reads nodes s y ≡ false
+      pub none_reads : (y : ℕ) → reads nodes s y ≡ false
       none_reads y = by_test (reads nodes s y) refl
         where
           by_test : (t : Bool) → reads nodes s y ≡ t → reads nodes s y ≡ false

@@ -74,7 +74,7 @@ children_rising nodes tps children under q = rw (under q) (filter_rising (λ p. 
 -- ---- dependencies
 
 module _ (nodes : List Node) (distinct : IsDistinct nodes) (named : List ℕ → Option ℕ) (ids : IsIndex nodes (element_named nodes) named) where
-  low_in : (of : Item → Option ℕ) (i : ℕ) → ((item : Item) → is_option i (of item) ≡ true → i < length nodes) → (items : List Item) → leads_to_place of items i ≡ true → i < length nodes
+  pub low_in : (of : Item → Option ℕ) (i : ℕ) → ((item : Item) → is_option i (of item) ≡ true → i < length nodes) → (items : List Item) → leads_to_place of items i ≡ true → i < length nodes
   low_in of i low [] e = cc
   low_in of i low (item ∷ items) e = by_case (or_cases (is_option i (of item)) (leads_to_place of items i) e) (low_in of i low items)
     where
@@ -82,7 +82,7 @@ module _ (nodes : List Node) (distinct : IsDistinct nodes) (named : List ℕ →
       by_case (inl q) later = low item q
       by_case (inr q) later = later q
 
-  named_low : (i : ℕ) (item : Item) → is_option i (named_by named item) ≡ true → i < length nodes
+  pub named_low : (i : ℕ) (item : Item) → is_option i (named_by named item) ≡ true → i < length nodes
   named_low i (Offset o) e = cc
   named_low i (Sync who edge o) e = ids.below who i (place_is i (named who) e)
   named_low i _ e = cc
@@ -109,12 +109,12 @@ module _ (nodes : List Node) (distinct : IsDistinct nodes) (named : List ℕ →
   hears_low i j e l q = in_both (source_of named j) i (source_low i j l) e q
 
   -- a test of two places that fails where the second is none
-  guarded : (b t : Bool) → ((b && t) ≡ true → ⊥) → (b && t) ≡ false
+  pub guarded : (b t : Bool) → ((b && t) ≡ true → ⊥) → (b && t) ≡ false
   guarded true true deny = absurd (deny refl)
   guarded true false deny = refl
   guarded false t deny = refl
 
-  past : (i : ℕ) → slice_get nodes i ≡ None → i < length nodes → ⊥
+  pub past : (i : ℕ) → slice_get nodes i ≡ None → i < length nodes → ⊥
   past i q l = let m = there nodes i l in let never : None ≡ Some m.0 = sym q ∙ m.1 in absurd (cc)
 
   module _ (tps : List (Option ℕ)) (children : List (List ℕ)) (previous : List (Option ℕ)) (table : IsTable nodes (λ n. time_parent nodes n.serial) tps) (under : AreTimeChildren nodes tps children) (befores : IsTable nodes (λ n. previous_in_seq nodes n.serial) previous) where
@@ -294,7 +294,7 @@ serials_filter nodes f g same = along nodes 0 (λ k m q. let zero_more : k ≡ 0
         step true at e later = ap (λ t. serials_of_places nodes (cond t (a ∷ filter f (range_with_len (a + 1) (length ms))) (filter f (range_with_len (a + 1) (length ms))))) e ∙ pass (g m.serial) at later
         step false at e later = ap (λ t. serials_of_places nodes (cond t (a ∷ filter f (range_with_len (a + 1) (length ms))) (filter f (range_with_len (a + 1) (length ms))))) e ∙ later
 
-row_map : (f : List ℕ → List ℕ) → f [] ≡ [] → (rows : List (List ℕ)) (i : ℕ) → row (map f rows) i ≡ f (row rows i)
+pub row_map : (f : List ℕ → List ℕ) → f [] ≡ [] → (rows : List (List ℕ)) (i : ℕ) → row (map f rows) i ≡ f (row rows i)
 row_map f none [] i = sym none
 row_map f none (r ∷ rows) zero = refl
 row_map f none (r ∷ rows) (suc i) = row_map f none rows i

@@ -18,3 +18,4 @@ pub mod ElementOrder
 pub mod KeyRows
 pub mod AlikeDocuments
 pub mod AlikeTables
+pub mod FollowersByPlace

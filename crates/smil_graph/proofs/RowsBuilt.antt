@@ -1,8 +1,9 @@
 -- Rows that are built one by one, and what is pushed in them.
 use Rattle.std.proofs.Common.{◌≡◌, refl, sym, ◌∙◌, ap, ℕ, ◌<◌, ◌+◌, List, [], ◌∷◌, ◌++◌, length, take, Bool, true, false, Option, Some, arith, inl, inr, append_assoc}
 use mathlib.Core.Bool.{or-false, or_assoc}
+use Rattle.std.specs.List.{list_any}
 use Rattle.std.specs.Prelude.{cond, map, ◌||◌, ◌&&◌, ◌⊎◌, slice_get, slice_index_or}
-use Rattle.std.proofs.lemmas.List.{get_or_append_left, get_or_push, length_push, map-append}
+use Rattle.std.proofs.lemmas.List.{get_or_append_left, get_or_push, length_push, map-append, take_more}
 use Rattle.std.proofs.lemmas.List.Folds.{list_any-append}
 use Rattle.smil_model.specs.declared.document.Node.{Node}
 use Rattle.smil_model.specs.declared.document.Item.{Item}
@@ -48,6 +49,15 @@ leads_more of items k item p i old mid new here is so pushed =
     ∙ ap (λ t. t || is_option i (of item)) so
     ∙ or_assoc old (leads_to_place of (take k items) i) (is_option i (of item))
     ∙ ap (λ t. old || t) (sym all)
+
+pub any_more_at : (f : ℕ → Bool) (items : List ℕ) (k : ℕ) (mid new last : Bool) → k < length items → last ≡ f (slice_index_or items k 0) → mid ≡ list_any f (take k items) → new ≡ (mid || last) → new ≡ list_any f (take (k + 1) items)
+any_more_at f items k mid new last low is so pushed =
+    let item = slice_index_or items k 0 in
+    pushed
+    ∙ ap (λ t. mid || t) is
+    ∙ ap (λ t. t || f item) so
+    ∙ ap (λ t. list_any f (take k items) || t) (right (f item))
+    ∙ sym (ap (list_any f) (take_more items k 0 low) ∙ list_any-append f (take k items) (item ∷ []))
 
 -- ---- rows of a node
 

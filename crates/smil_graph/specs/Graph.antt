@@ -1,6 +1,6 @@
 -- What the graph of a document answers.
 use Rattle.std.specs.Prelude.{◌≡◌, ℕ, ◌<◌, List, filter, length, Bool, true, false, not, ◌&&◌, ◌||◌, ◌==◌, Option, Some, None, slice_get, slice_index_or}
-use Rattle.std.specs.List.{list_any}
+use Rattle.std.specs.List.{list_any, position}
 use Rattle.std.specs.List.Sorted.{IsPermutation}
 use Rattle.smil_model.specs.declared.document.Node.{Node}
 use Rattle.smil_model.specs.declared.document.Item.{Item}
@@ -8,7 +8,7 @@ use Rattle.smil_model.specs.declared.document.Edge.{Edge}
 use Rattle.smil_model.specs.document.Document.{Document, elements, node_at, has_serial, is_time_child, previous_in_seq, serials}
 use Rattle.smil_model.specs.document.Defaults.{items_of}
 use Rattle.smil_model.specs.document.Dependencies.{has_implicit_duration, all_items, is_sync_with, is_looped, leads_to}
-use Rattle.smil_model.specs.reach.Reach.{reads}
+use Rattle.smil_model.specs.reach.Reach.{reads, is_option}
 
 -- the nodes of a document and its next serial, with an order of the elements
 pub record OrderedNodes : Type 0 where
@@ -41,6 +41,38 @@ looped_at nodes serial side k = looped_of nodes side k (node_at (elements nodes)
 -- the elements that read this one, in document order
 abbrev pub readers_of : List Node → ℕ → List ℕ
 readers_of nodes x = filter (reads nodes x) (serials (elements nodes))
+
+-- ---- followers
+
+-- whether e is next to x in a seq, or has a reference to x that is not looped
+abbrev pub follows_by_item : List Node → ℕ → Node → Bool
+follows_by_item nodes x e =
+    has_serial x (previous_in_seq nodes e.serial)
+    || (list_any (is_sync_with nodes x) (all_items nodes e) && not (leads_to nodes e.serial x))
+
+-- whether y follows so from x
+abbrev pub follows : List Node → ℕ → ℕ → Bool
+follows nodes x y =
+    list_any (λ (e : Node). (e.serial == y) && follows_by_item nodes x e) (elements nodes)
+
+-- the elements that follow so from this one, in document order
+abbrev pub followers_of : List Node → ℕ → List ℕ
+followers_of nodes x = filter (follows nodes x) (serials (elements nodes))
+
+-- ---- ranks
+
+-- whether an element has this rank in an order
+abbrev pub has_rank : List ℕ → ℕ → ℕ → Bool
+has_rank order rank serial = is_option rank (position (λ s. s == serial) order)
+
+-- whether this is the rank of one that reads this element
+abbrev pub is_reader_rank : List Node → List ℕ → ℕ → ℕ → Bool
+is_reader_rank nodes order serial rank = list_any (has_rank order rank) (readers_of nodes serial)
+
+-- whether this is the rank of one that follows so from this element
+abbrev pub is_follower_rank : List Node → List ℕ → ℕ → ℕ → Bool
+is_follower_rank nodes order serial rank =
+    list_any (has_rank order rank) (followers_of nodes serial)
 
 -- ---- an order of the elements
 

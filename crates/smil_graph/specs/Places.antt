@@ -10,6 +10,7 @@ use Rattle.smil_model.specs.document.Defaults.{items_or, stated_list}
 use Rattle.smil_model.specs.document.Dependencies.{has_implicit_duration, feeds_node}
 use Rattle.smil_model.specs.reach.Reach.{reads_node, is_option}
 use Rattle.smil_model.specs.document.Closure.{has}
+use Rattle.smil_graph.specs.Graph.{follows_by_item}
 use Rattle.smil_graph.specs.Links.{row}
 
 -- the node at a place that may be absent
@@ -32,6 +33,10 @@ feeds_from nodes _ _ = false
 abbrev pub reads_from : List Node → Option Node → Option Node → Bool
 reads_from nodes (Some e) (Some x) = is_element e && reads_node nodes x.serial e
 reads_from nodes _ _ = false
+
+abbrev pub follows_from : List Node → Option Node → Option Node → Bool
+follows_from nodes (Some e) (Some x) = is_element e && follows_by_item nodes x.serial e
+follows_from nodes _ _ = false
 
 -- whether the node at a place is an element
 abbrev pub has_element : Option Node → Bool
@@ -145,6 +150,34 @@ abbrev pub is_on_level : List ℕ → ℕ → Option ℕ → Bool
 is_on_level levels place None = false
 is_on_level levels place (Some other) =
     slice_index_or levels other 0 == slice_index_or levels place 0
+
+-- a place that is on another level, if there is one
+abbrev pub off_level : List ℕ → ℕ → Option ℕ → Option ℕ
+off_level levels place other = if is_on_level levels place other then None else other
+
+-- the place of the element to whose begin or end an item refers, where that is on another level
+abbrev pub named_off_level : List ℕ → (List ℕ → Option ℕ) → ℕ → Item → Option ℕ
+named_off_level levels named place item = off_level levels place (named_by named item)
+
+-- whether the node at a place stands behind the place i in a seq,
+-- or has a reference to it that leads to another level
+abbrev pub follows_off_level :
+    List ℕ → (List ℕ → Option ℕ) → Option ℕ → ℕ → Node → ℕ → Bool
+follows_off_level levels named previous place e i =
+    is_option i previous
+    || leads_to_place (named_off_level levels named place) (items_or [] e.attrs.begin) i
+    || leads_to_place (named_off_level levels named place) (items_or [] e.attrs.«end») i
+
+abbrev pub element_follows_off_level :
+    List ℕ → (List ℕ → Option ℕ) → Option ℕ → ℕ → Option Node → ℕ → Bool
+element_follows_off_level levels named previous place None i = false
+element_follows_off_level levels named previous place (Some e) i =
+    is_element e && follows_off_level levels named previous place e i
+
+-- whether the element at the place j follows from the one at i by an item that is not looped,
+-- or as the next in a seq
+abbrev pub follows_place : List Node → ℕ → ℕ → Bool
+follows_place nodes j i = follows_from nodes (slice_get nodes j) (slice_get nodes i)
 
 -- for each item whether it names another place on the level of this one
 abbrev pub marks_of : Edge → List ℕ → (List ℕ → Option ℕ) → ℕ → Option Node → List Bool

@@ -1,7 +1,7 @@
 -- What a graph keeps of its document, by places.
-use Rattle.std.specs.Prelude.{◌≡◌, ℕ, ◌<◌, ◌≤◌, List, [], ◌∷◌, length, filter, Bool, true, false, ◌==◌, ◌&&◌, ◌||◌, if◌then◌else◌, Option, Some, None, slice_get, slice_index_or}
+use Rattle.std.specs.Prelude.{◌≡◌, ℕ, ◌<◌, ◌≤◌, List, [], ◌∷◌, length, filter, Bool, true, false, ◌==◌, ◌&&◌, ◌||◌, if◌then◌else◌, Option, Some, None, slice_get, slice_index, slice_index_or}
 use Rattle.std.specs.FinMap.{get}
-use Rattle.std.specs.List.{list_any, range_with_len}
+use Rattle.std.specs.List.{list_any, position, range_with_len}
 use Rattle.smil_model.specs.declared.document.Node.{Node}
 use Rattle.smil_model.specs.declared.document.Item.{Item}
 use Rattle.smil_model.specs.declared.document.Item.TheVariants.{Key}
@@ -10,12 +10,12 @@ use Rattle.smil_model.specs.declared.document.Edge.TheVariants.{Begin, End}
 use Rattle.smil_model.specs.document.Document.{Document, is_element, elements, serials, time_parent, has_kind, is_seq_kind, is_excl_kind}
 use Rattle.smil_model.specs.document.Dependencies.{feeds, leads_to, all_items}
 use Rattle.smil_model.specs.document.Closure.{closure, has}
-use Rattle.smil_model.specs.reach.Reach.{reads, is_near, is_key_item}
+use Rattle.smil_model.specs.reach.Reach.{reads, is_near, is_key_item, is_option}
 use Rattle.smil_model.specs.FirstPlaces.{AreFirstPlaces}
 use Rattle.smil_graph.specs.declared.tables.Tables.{Tables}
 use Rattle.smil_graph.specs.Links.{row, links, AreRows}
-use Rattle.smil_graph.specs.Places.{reads_place, is_element_at, IsTable, AreTimeChildren}
-use Rattle.smil_graph.specs.Graph.{is_looped_item, readers_of, IsGraphOrder}
+use Rattle.smil_graph.specs.Places.{follows_place, place_of, reads_place, is_element_at, IsTable, AreTimeChildren}
+use Rattle.smil_graph.specs.Graph.{is_follower_rank, is_looped_item, is_reader_rank, readers_of, IsGraphOrder}
 use Rattle.smil_graph.specs.declared.waiting.TheConstants.{KEYS}
 use Rattle.smil_model.specs.document.Defaults.{items_of, items_or}
 
@@ -55,6 +55,13 @@ pub record AreHeads (nodes : List Node) (rows : List (List ℕ)) : Type 0 where
 abbrev pub AreReaders : List Node → List (List ℕ) → Type 0
 AreReaders nodes rows =
     (i : ℕ) (x : Node) → slice_get nodes i ≡ Some x → row rows i ≡ readers_of nodes x.serial
+
+-- for each node the places of the elements that follow from it by an item that is not looped,
+-- or as the next in a seq, in document order
+pub record AreFollowers (nodes : List Node) (rows : List (List ℕ)) : Type 0 where
+  pub count : length rows ≡ length nodes
+  pub each : (i : ℕ) → i < length nodes
+      → row rows i ≡ filter (λ j. follows_place nodes j i) (range_with_len 0 (length nodes))
 
 -- the serials of the nodes at places
 abbrev pub with_serial : Option Node → List ℕ → List ℕ
@@ -133,10 +140,37 @@ pub record AreWithPlace (test : ℕ → Bool) (place : ℕ) (old new : List (Lis
 abbrev pub AreRanks : List ℕ → (ℕ → Option ℕ) → Type 0
 AreRanks order ranks = AreFirstPlaces (λ (s : ℕ). s) ranks order
 
+-- for each element of an order the ranks of those that read it
+abbrev pub AreReaderRanks : List Node → List ℕ → List (List ℕ) → Type 0
+AreReaderRanks nodes order rows =
+    AreRows (length order) (λ rank. is_reader_rank nodes order (slice_index order rank)) rows
+
+-- for each element of an order the ranks of those that follow from it so
+abbrev pub AreFollowerRanks : List Node → List ℕ → List (List ℕ) → Type 0
+AreFollowerRanks nodes order rows =
+    AreRows (length order) (λ rank. is_follower_rank nodes order (slice_index order rank)) rows
+
+-- the rank of a node in an order
+abbrev pub rank_of : List ℕ → Option Node → Option ℕ
+rank_of order None = None
+rank_of order (Some n) = position (λ s. s == n.serial) order
+
+-- whether a node at one of these places has this rank
+abbrev pub is_rank_at : List Node → List ℕ → List ℕ → ℕ → Bool
+is_rank_at nodes order places rank =
+    list_any (λ place. is_option rank (rank_of order (slice_get nodes place))) places
+
+-- for each element of an order the ranks of the nodes in the row of its place
+abbrev pub AreRanked : List Node → List ℕ → List (List ℕ) → ℕ → List (List ℕ) → Type 0
+AreRanked nodes order rows count ranked =
+    AreRows count (λ rank. is_rank_at nodes order
+    (row_of rows (place_of nodes (slice_index order rank)))) ranked
+
 -- ---- tables
 
 -- what is kept: time parents, time children, looped begins and ends,
--- who reads whom, who waits for which key, and an order with ranks
+-- who reads whom, who waits for which key, an order with ranks,
+-- and by rank who reads and who follows
 pub record AreTables (document : Document) (t : Tables) : Type 0 where
   pub above : IsTable document.nodes (λ n. time_parent document.nodes n.serial) t.time_parents.items
   pub count : length t.time_children ≡ length document.nodes
@@ -148,3 +182,5 @@ pub record AreTables (document : Document) (t : Tables) : Type 0 where
   pub waiting : AreWaiting document.nodes t.waiting.items
   pub ordered : IsGraphOrder document.nodes t.order
   pub ranked : AreRanks t.order (get t.ranks)
+  pub read_ranked : AreReaderRanks document.nodes t.order t.reader_ranks
+  pub followed : AreFollowerRanks document.nodes t.order t.follower_ranks

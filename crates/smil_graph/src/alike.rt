@@ -26,6 +26,7 @@ pub fn are_alike(before: &Tree, after: &Tree) -> bool
 }
 
 // Whether two nodes are the same in what a graph reads of them.
+#[inline(always)]
 fn is_alike(node: &Node, other: &Node) -> bool
     ensures { IsTrue result ↔ (reduced node.now ≡ reduced other.now) }
 {
@@ -39,6 +40,7 @@ fn is_alike(node: &Node, other: &Node) -> bool
 }
 
 // Whether two kinds are the same.
+#[inline(always)]
 fn is_same_kind(one: Kind, other: Kind) -> bool
     ensures { IsTrue result ↔ (one ≡ other) }
 {
@@ -61,6 +63,7 @@ fn is_same_kind(one: Kind, other: Kind) -> bool
 }
 
 // Whether two ids are the same, or both absent.
+#[inline(always)]
 fn is_same_id(one: &Option<Bytes>, other: &Option<Bytes>) -> bool
     ensures { IsTrue result ↔ (one.now ≡ other.now) }
 {
@@ -72,6 +75,7 @@ fn is_same_id(one: &Option<Bytes>, other: &Option<Bytes>) -> bool
 }
 
 // Whether two lists of items are the same in what a graph reads of them, or both absent.
+#[inline(always)]
 fn are_alike_stated(one: &Option<Items>, other: &Option<Items>) -> bool
     ensures { IsTrue result
         ↔ (option_map reduced_items one.now ≡ option_map reduced_items other.now) }
@@ -84,6 +88,7 @@ fn are_alike_stated(one: &Option<Items>, other: &Option<Items>) -> bool
 }
 
 // Whether two lists of items are the same in what a graph reads of them.
+#[inline(never)]
 fn are_alike_items(ones: &[Item], others: &[Item]) -> bool
     ensures { IsTrue result ↔ (reduced_items ones.now ≡ reduced_items others.now) }
 {

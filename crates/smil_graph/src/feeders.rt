@@ -12,7 +12,7 @@ ghost use Rattle.smil_graph.specs.Places as places;
 ghost use Rattle.smil_graph.specs.Places.{up, leads_to_place, element_follows, feeds_place, reads_place, IsIndex, IsTable, AreTimeChildren};
 ghost use Rattle.smil_model.specs.document.Valid.{IsNumberedTree, IsDistinct};
 
-use super::outline::{TimeTree, is_element, place_at, previous_in_seqs};
+use super::outline::{TimeTree, is_element, place_at};
 use super::row::{push_all, push_one};
 use super::short_list::ShortList;
 use smil_duration::takes_implicit;
@@ -36,6 +36,7 @@ struct Index<'a, 'b> {
 pub fn feeders(
     alloc: Global,
     tree: &TimeTree<'_>,
+    previous: &[Option<usize>],
     ids: &HashMap<&[u8], usize>,
 ) -> Result<FlatLists<usize>, AllocError>
     requires numbered { IsNumberedTree tree.now.doc.now }
@@ -43,15 +44,16 @@ pub fn feeders(
         (λ n. model.time_parent tree.now.doc.now.nodes n.serial) tree.now.parents.now }
     requires children { AreTimeChildren tree.now.doc.now.nodes tree.now.parents.now
         tree.now.children.now }
+    requires previous { IsTable tree.now.doc.now.nodes
+        (λ n. model.previous_in_seq tree.now.doc.now.nodes n.serial) previous.now }
     requires ids { IsIndex tree.now.doc.now.nodes (model.element_named tree.now.doc.now.nodes)
         (λ id. get_by (λ k. bytes_eq id k.now) ids.now) }
     ensures { IfOk result (λ rows. AreRows (length tree.now.doc.now.nodes)
         (feeds_place tree.now.doc.now.nodes) rows) }
 {
-    let previous = previous_in_seqs(alloc, tree)?;
     let index = Index {
         children: tree.children,
-        previous: previous.as_slice(),
+        previous,
         ids,
     };
     feeder_rows(alloc, tree.doc, &index)

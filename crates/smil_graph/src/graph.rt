@@ -1,19 +1,20 @@
 //! The graph of a document.
 
-ghost use Rattle.std.specs.Prelude.{◌≡◌, ◌==◌, ◌++◌, ℕ, List, Some, true, slice_get, OnOk, OnErr, IfOk};
+ghost use Rattle.std.specs.Prelude.{◌≡◌, ◌==◌, ◌++◌, ◌<◌, ℕ, List, Some, true, length, slice_get, slice_index, OnOk, OnErr, IfOk};
 ghost use Rattle.std.specs.List.{position};
 ghost use Rattle.smil_model.specs.document.Valid.{IsNumberedTree};
 ghost use Rattle.smil_model.specs.reach.Reach as model;
-ghost use Rattle.smil_graph.specs.Graph.{document_of, looped_at, readers_of, IsGraphOrder};
+ghost use Rattle.smil_model.specs.document.Closure.{has};
+ghost use Rattle.smil_graph.specs.Graph.{document_of, is_follower_rank, is_reader_rank, looped_at, readers_of, IsGraphOrder};
 ghost use Rattle.smil_model.specs.declared.document.Node.{Node as AnyNode};
-ghost use Rattle.smil_graph.specs.Tables.{marked_at, row_of, element_place, reach_of, AreElements, AreOf, AreTables};
+ghost use Rattle.smil_graph.specs.Tables.{marked_at, element_place, reach_of, AreElements, AreOf, AreTables};
 ghost use Rattle.smil_graph.specs.Places.{is_element_at, place_of};
 ghost use Rattle.smil_graph.specs.Reduced.{all_reduced};
 
 use super::alike::are_alike;
 use super::near::near;
 use super::outline::{TimeTree, is_element_at};
-use super::row::row_at;
+use super::row::{row_at, serials_row};
 use super::search::search;
 use super::short_list::ShortList;
 use super::tables::{Tables, serials_at, tables_of};
@@ -151,7 +152,28 @@ impl Graph {
         ensures { result.now ≡ readers_of self.now.nodes serial }
     {
         let tables = self.tables.as_ref();
-        row_of(&tables.readers, self.tree.position(serial))
+        serials_row(&tables.readers, self.tree.position(serial))
+    }
+
+    /// The ranks in the order of the elements that read the one at a rank. It takes no memory.
+    pub fn reader_ranks(&self, rank: usize) -> &[usize]
+        requires { rank < length self.now.order }
+        ensures { (r : ℕ) → has result.now r
+            ≡ is_reader_rank self.now.nodes self.now.order (slice_index self.now.order rank) r }
+    {
+        let tables = self.tables.as_ref();
+        tables.reader_ranks.at(rank)
+    }
+
+    /// The ranks in the order of the elements that follow from the one at a rank as the next in a
+    /// seq or by a reference that is not looped. It takes no memory.
+    pub fn follower_ranks(&self, rank: usize) -> &[usize]
+        requires { rank < length self.now.order }
+        ensures { (r : ℕ) → has result.now r
+            ≡ is_follower_rank self.now.nodes self.now.order (slice_index self.now.order rank) r }
+    {
+        let tables = self.tables.as_ref();
+        tables.follower_ranks.at(rank)
     }
 
     /// The elements in an order in which each dependency that is not looped goes forward. It takes
@@ -252,16 +274,6 @@ fn element_place(tree: &Tree, serial: u32) -> Option<usize>
     match tree.position(serial) {
         Some(place) if is_element_at(tree, place) => Some(place),
         _ => None,
-    }
-}
-
-// The row at a place; it is empty where there is none.
-fn row_of(rows: &FlatLists<u32>, place: Option<usize>) -> &[u32]
-    ensures { result.now ≡ row_of rows.now place }
-{
-    match place {
-        Some(place) => rows.at(place),
-        None => &[],
     }
 }
 

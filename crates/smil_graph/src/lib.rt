@@ -5,6 +5,7 @@
 mod alike;
 mod components;
 mod feeders;
+mod followers;
 mod graph;
 mod levels;
 mod looped;

@@ -75,8 +75,8 @@ fn push_marks(
     Ok(())
 }
 
-// Whether there is another place, and on the level of this one.
-fn is_on_level(levels: &[usize], place: usize, other: Option<usize>) -> bool
+/// Whether there is another place, and on the level of this one.
+pub fn is_on_level(levels: &[usize], place: usize, other: Option<usize>) -> bool
     ensures { result ≡ is_on_level levels.now place other }
 {
     match other {

@@ -80,7 +80,7 @@ fn ranks(
         ≡ map (rank_of levels.now heights.now)
         (filter (is_element_at tree.now.nodes) (range_with_len 0 (length tree.now.nodes)))) }
 {
-    let mut ranks = Vec::new(alloc);
+    let mut ranks = Vec::with_capacity(alloc, tree.len())?;
     for place in 0..tree.len() {
         let node = tree.at(place).unwrap();
         if is_element(node) {

@@ -17,7 +17,7 @@ pub fn id_places<'a>(alloc: Global, tree: &'a Tree) -> Result<HashMap<&'a [u8], 
     ensures { IfOk result (λ places. IsIndex tree.now.nodes (element_named tree.now.nodes)
         (λ id. get_by (λ k. bytes_eq id k.now) places)) }
 {
-    let mut places = HashMap::new(alloc);
+    let mut places = HashMap::with_capacity(alloc, tree.len())?;
     for place in 0..tree.len() {
         let node = tree.at(place).unwrap();
         note_id(&mut places, node, place)?;

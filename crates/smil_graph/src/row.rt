@@ -4,6 +4,7 @@ ghost use Rattle.std.specs.Prelude.{◌≡◌, ℕ, ◌<◌, [], ◌∷◌, ◌+
 ghost use Rattle.smil_model.specs.reach.Reach.{is_option};
 ghost use Rattle.smil_model.specs.document.Closure.{has};
 ghost use Rattle.smil_graph.specs.Links.{row};
+ghost use Rattle.smil_graph.specs.Tables.{row_of};
 
 use super::short_list::ShortList;
 use smil_flat_lists::FlatLists;
@@ -36,6 +37,26 @@ pub fn row_at(rows: &[ShortList<usize>], place: usize) -> &[usize]
 {
     match rows.get(place) {
         Some(row) => row.slice(),
+        None => &[],
+    }
+}
+
+/// The row at a place; it is empty where there is none.
+pub fn serials_row(rows: &FlatLists<u32>, place: Option<usize>) -> &[u32]
+    ensures { result.now ≡ row_of rows.now place }
+{
+    match place {
+        Some(place) => rows.at(place),
+        None => &[],
+    }
+}
+
+/// The row at a place; it is empty where there is none.
+pub fn row_of(rows: &[ShortList<usize>], place: Option<usize>) -> &[usize]
+    ensures { result.now ≡ row_of rows.now place }
+{
+    match place {
+        Some(place) => row_at(rows, place),
         None => &[],
     }
 }

@@ -1,21 +1,24 @@
 //! What a graph keeps of its document.
 
-ghost use Rattle.std.specs.Prelude.{◌≡◌, List, length, bytes_eq, IfOk};
+ghost use Rattle.std.specs.Prelude.{◌≡◌, ℕ, List, length, map, slice_get, bytes_eq, IfOk};
+ghost use Rattle.std.specs.FinMap.{get};
 ghost use Rattle.std.specs.HashMap.{get_by};
 ghost use Rattle.smil_model.specs.document.Document.{element_named};
 ghost use Rattle.smil_model.specs.document.Valid.{IsNumberedTree, IsDistinct};
 ghost use Rattle.smil_model.specs.declared.document.Node.{Node};
 ghost use Rattle.smil_graph.specs.Links.{AreRows, StayBelow};
+ghost use Rattle.smil_model.specs.document.Closure.{has};
 ghost use Rattle.smil_graph.specs.Places.{IsIndex, feeds_place};
-ghost use Rattle.smil_graph.specs.Tables.{AreElementLevels, AreHeads, AreReaders, AreTables, serials_of_places};
+ghost use Rattle.smil_graph.specs.Tables.{AreElementLevels, AreHeads, AreRanked, AreRanks, AreTables, is_rank_at, rank_of, serials_of_places};
 
 use super::feeders::{feeders, sources};
+use super::followers::followers;
 use super::levels::levels;
 use super::looped::{Loops, looped_marks};
 use super::ordered::ordered;
-use super::outline::{TimeTree, parents, time_children, time_parents};
+use super::outline::{TimeTree, parents, previous_in_seqs, time_children, time_parents};
 use super::places::id_places;
-use super::row::flat;
+use super::row::{flat, push_one, row_of};
 use super::short_list::ShortList;
 use super::turned::turned;
 use super::waiting::waiting;
@@ -33,6 +36,8 @@ pub struct Tables {
     pub ends: FlatLists<bool>,
     pub heads: FlatLists<usize>,
     pub readers: FlatLists<u32>,
+    pub reader_ranks: FlatLists<usize>,
+    pub follower_ranks: FlatLists<usize>,
     pub waiting: Vec<ShortList<usize>>,
     pub order: ShortList<u32>,
     pub ranks: SerialTable,
@@ -48,6 +53,8 @@ impl Drop for Tables {
             ends: _ends,
             heads: _heads,
             readers: _readers,
+            reader_ranks: _reader_ranks,
+            follower_ranks: _follower_ranks,
             waiting: _waiting,
             order: _order,
             ranks: _ranks,
@@ -69,24 +76,30 @@ pub fn tables_of(alloc: Global, tree: &Tree) -> Result<Tables, AllocError>
         parents: time_parents.as_slice(),
         children: &time_children,
     };
-    let feeders = feeders(alloc, &times, &ids)?;
+    let previous = previous_in_seqs(alloc, &times)?;
+    let feeders = feeders(alloc, &times, previous.as_slice(), &ids)?;
     let levels = element_levels(alloc, &feeders)?;
     let heads = heads(alloc, tree, &feeders, &ids)?;
+    let readers = serial_rows(alloc, tree, heads.as_slice())?;
     let order = ordered(alloc, tree, levels.as_slice(), time_parents.as_slice())?;
+    let ranks = first_places(alloc, order.slice())?;
     let loops = Loops {
         ids: &ids,
         levels: levels.as_slice(),
     };
+    let followers = followers(alloc, tree, previous.as_slice(), &loops)?;
     Ok(Tables {
         begins: looped_marks(alloc, tree, &loops, Edge::Begin)?,
         ends: looped_marks(alloc, tree, &loops, Edge::End)?,
-        readers: readers(alloc, tree, &heads)?,
+        reader_ranks: ranked(alloc, tree, heads.as_slice(), order.slice(), &ranks)?,
+        follower_ranks: ranked(alloc, tree, followers.as_slice(), order.slice(), &ranks)?,
+        heads: flat(alloc, heads.as_slice())?,
         waiting: waiting(alloc, tree)?,
-        ranks: first_places(alloc, order.slice())?,
+        readers,
+        ranks,
         order,
         time_parents,
         time_children,
-        heads,
     })
 }
 
@@ -107,34 +120,80 @@ fn heads(
     tree: &Tree,
     feeders: &FlatLists<usize>,
     ids: &HashMap<&[u8], usize>,
-) -> Result<FlatLists<usize>, AllocError>
+) -> Result<Vec<ShortList<usize>>, AllocError>
     requires distinct { IsDistinct tree.now.nodes }
     requires feeders { AreRows (length tree.now.nodes) (feeds_place tree.now.nodes) feeders.now }
     requires ids { IsIndex tree.now.nodes (element_named tree.now.nodes)
         (λ id. get_by (λ k. bytes_eq id k.now) ids.now) }
-    ensures { IfOk result (λ rows. AreHeads tree.now.nodes rows) }
+    ensures { IfOk result (λ rows. AreHeads tree.now.nodes rows.items) }
 {
     let sources = sources(alloc, tree, feeders, ids)?;
     let rows = turned(alloc, &sources)?;
-    flat(alloc, rows.as_slice())
+    Ok(rows)
 }
 
-// For each element the serials of those that read it, in document order.
-fn readers(
+// The serials of the nodes at the places of each row.
+fn serial_rows(
     alloc: Global,
     tree: &Tree,
-    heads: &FlatLists<usize>,
+    rows: &[ShortList<usize>],
 ) -> Result<FlatLists<u32>, AllocError>
-    requires distinct { IsDistinct tree.now.nodes }
-    requires heads { AreHeads tree.now.nodes heads.now }
-    ensures { IfOk result (λ rows. AreReaders tree.now.nodes rows) }
+    ensures { IfOk result (λ lists. lists
+        ≡ map (serials_of_places tree.now.nodes) rows.now) }
 {
-    let mut rows = FlatLists::with_capacity(alloc, heads.len())?;
-    for place in 0..heads.len() {
-        let serials = serials_at(alloc, tree, heads.at(place))?;
-        rows.push(serials.slice())?;
+    let mut lists = FlatLists::with_capacity(alloc, rows.len())?;
+    for row in rows {
+        let serials = serials_at(alloc, tree, row.slice())?;
+        lists.push(serials.slice())?;
     }
-    Ok(rows)
+    Ok(lists)
+}
+
+// For each element of an order the ranks of the nodes in the row of its place.
+fn ranked(
+    alloc: Global,
+    tree: &Tree,
+    rows: &[ShortList<usize>],
+    order: &[u32],
+    ranks: &SerialTable,
+) -> Result<FlatLists<usize>, AllocError>
+    requires { AreRanks order.now (get ranks.now) }
+    ensures { IfOk result (λ lists. AreRanked tree.now.nodes order.now rows.now
+        (length order.now) lists) }
+{
+    let mut lists = FlatLists::with_capacity(alloc, order.len())?;
+    for serial in order {
+        let row = ranks_at(alloc, tree, row_of(rows, tree.position(*serial)), ranks)?;
+        lists.push(row.slice())?;
+    }
+    Ok(lists)
+}
+
+// The ranks of the nodes at these places, by a table of the ranks.
+fn ranks_at(
+    alloc: Global,
+    tree: &Tree,
+    places: &[usize],
+    ranks: &SerialTable,
+) -> Result<ShortList<usize>, AllocError>
+    ensures { (order : List ℕ) → AreRanks order (get ranks.now)
+        → IfOk result (λ row. (r : ℕ) → has row r
+        ≡ is_rank_at tree.now.nodes order places.now r) }
+{
+    let mut row = ShortList::new(alloc);
+    for place in places {
+        push_one(&mut row, rank_at(tree, *place, ranks))?;
+    }
+    Ok(row)
+}
+
+// The rank of the node at a place, by a table of the ranks.
+fn rank_at(tree: &Tree, place: usize, ranks: &SerialTable) -> Option<usize>
+    ensures { (order : List ℕ) → AreRanks order (get ranks.now)
+        → result ≡ rank_of order (slice_get tree.now.nodes place) }
+{
+    let node = tree.at(place)?;
+    ranks.get(node.serial)
 }
 
 /// The serials of the nodes at these places.

@@ -10,7 +10,7 @@ use Rattle.smil_graph.proofs.feeders.feeders.Goals as goal
 pub returns : goal.returns
 returns c =
     IfOk-weaker c.feeder_rows.result
-    (λ rows. AreRows (length c.args.tree.now.doc.now.nodes) (λ j i. element_follows (row c.args.tree.now.children.now j) (up c.as_slice.result.now j) (λ id. get_by (λ k. bytes_eq id k.now) c.args.ids.now) (slice_get c.args.tree.now.doc.now.nodes j) i) rows)
+    (λ rows. AreRows (length c.args.tree.now.doc.now.nodes) (λ j i. element_follows (row c.args.tree.now.children.now j) (up c.args.previous.now j) (λ id. get_by (λ k. bytes_eq id k.now) c.args.ids.now) (slice_get c.args.tree.now.doc.now.nodes j) i) rows)
     (λ rows. AreRows (length c.args.tree.now.doc.now.nodes) (feeds_place c.args.tree.now.doc.now.nodes) rows)
-    (λ rows are. feeders_are c.args.tree.now.doc.now.nodes c.requires.numbered.distinct (λ id. get_by (λ k. bytes_eq id k.now) c.args.ids.now) c.requires.ids c.args.tree.now.parents.now c.args.tree.now.children.now c.as_slice.result.now c.requires.parents c.requires.children (rw c.as_slice.ensures.value c.in_ok-previous.ensures) rows are)
+    (λ rows are. feeders_are c.args.tree.now.doc.now.nodes c.requires.numbered.distinct (λ id. get_by (λ k. bytes_eq id k.now) c.args.ids.now) c.requires.ids c.args.tree.now.parents.now c.args.tree.now.children.now c.args.previous.now c.requires.parents c.requires.children c.requires.previous rows are)
     c.feeder_rows.ensures

@@ -6,7 +6,7 @@ use Rattle.smil_graph.proofs.NodesByPlace.{fill_none, fill_step, fill_all}
 use Rattle.smil_graph.proofs.places.id_places.Goals as goal
 
 pub loop-place-init : goal.loop-place-init
-loop-place-init c = fill_none {K = List ℕ} (λ id n. is_element n && has_id id n.attrs.id) c.args.tree.now.nodes (λ id. get_by (λ k. bytes_eq id k.now) c.new-places.result) (λ id. let none : get_by (λ k. bytes_eq id k.now) c.new-places.result ≡ None = rw c.new-places.ensures.empty refl in none)
+loop-place-init c = fill_none {K = List ℕ} (λ id n. is_element n && has_id id n.attrs.id) c.args.tree.now.nodes (λ id. get_by (λ k. bytes_eq id k.now) c.in_ok-places.places) (λ id. let none : get_by (λ k. bytes_eq id k.now) c.in_ok-places.places ≡ None = rw c.in_ok-places.ensures.empty refl in none)
 
 pub loop-place-preserved : goal.loop-place-preserved
 loop-place-preserved c =
