@@ -1,6 +1,7 @@
 -- A value that is greater than the last of a list in rising order.
-use Rattle.std.proofs.Common.{◌≡◌, refl, subst, ℕ, ◌-◌, ◌<◌, List, length, get_or, Bool, true, false, Some, arith}
+use Rattle.std.proofs.Common.{◌≡◌, refl, subst, ap, ℕ, ◌-◌, ◌<◌, List, [], ◌∷◌, ◌++◌, length, get_or, Bool, true, false, Some, arith}
 use Rattle.std.specs.Prelude.{slice_get}
+use Rattle.std.specs.List.{insert}
 use Rattle.std.proofs.lemmas.Option.{get_or_from_slice_get}
 use Rattle.smil_model.specs.Rising.{IsOrder, IsPlaceFrom, IsRising}
 use Rattle.smil_model.proofs.RisingLists.{clash}
@@ -20,3 +21,8 @@ module _ {A : Type 0} (le : A → A → Bool) (order : IsOrder le) (xs : List A)
   -- so its place is at the end
   pub place_at_end : IsPlaceFrom le xs v (length xs)
   place_at_end = (omega arith, λ k d below. greater k d below, λ k d from inside. absurd (omega (arith, from, inside)))
+
+-- what is put at the end is appended
+pub insert_last : {A : Type 0} (xs : List A) (v : A) → insert xs (length xs) v ≡ xs ++ v ∷ []
+insert_last [] v = refl
+insert_last (x ∷ xs) v = ap (λ ys. x ∷ ys) (insert_last xs v)

@@ -215,8 +215,27 @@ fn copy_items(alloc: Global, items: &[ItemTimes]) -> Result<SmallVec<ItemTimes, 
     Ok(copies)
 }
 
-// Makes lists for the items up to this one. Where memory runs out all items are as before.
+// Makes lists for the items up to this one that have none. Where memory runs out all items are as
+// before.
+#[inline(always)]
 fn lay_out(
+    items: &mut SmallVec<ItemTimes, 1>,
+    idle: &mut usize,
+    item: usize,
+) -> Result<(), AllocError>
+    requires { item < length (with_idle idle.old items.old.items) }
+    ensures same { with_idle idle.new items.new.items ≡ with_idle idle.old items.old.items }
+    ensures ok { OnOk result (item < length items.new.items) }
+{
+    if item < items.len() {
+        return Ok(());
+    }
+    lay_out_more(items, idle, item)
+}
+
+// Makes lists for the items up to this one. Where memory runs out all items are as before.
+#[inline(never)]
+fn lay_out_more(
     items: &mut SmallVec<ItemTimes, 1>,
     idle: &mut usize,
     item: usize,

@@ -63,6 +63,7 @@ impl ItemTimes {
     }
 
     /// Appends a time that is of no earlier place. Where memory runs out the list is as before.
+    #[inline(always)]
     pub fn push(&mut self, last: InstanceTime) -> Result<(), AllocError>
         requires { IsNotAfter last.place self.old }
         ensures ok { OnOk result (self.new ≡ self.old ++ last ∷ []) }
@@ -155,6 +156,7 @@ impl ItemTimes {
 
 /// Adds an instance time, and its value to the sorted ones. Where memory runs out both are as
 /// before.
+#[inline(always)]
 pub fn add<T: Instant>(
     kept: &mut ItemTimes,
     sorted: &mut SortedList<T>,

@@ -80,6 +80,7 @@ impl<T: Copy> ShortQueue<T> {
     }
 
     /// Appends a value. Where memory runs out all is as before.
+    #[inline(always)]
     pub fn push_back(&mut self, last: T) -> Result<(), AllocError>
         ensures ok { OnOk result (self.new ≡ self.old ++ last ∷ []) }
         ensures err { OnErr result (self.new ≡ self.old) }

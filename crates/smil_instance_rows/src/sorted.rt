@@ -13,25 +13,42 @@ fn place_from<T: Instant>(values: &[T], value: T) -> usize
     requires { IsRising T.at_most values.now }
     ensures { IsPlaceFrom T.at_most values.now value result }
 {
-    if is_after_last(values, value) {
+    if goes_last(values, value) {
         return values.len();
     }
     values.partition_point(|other| other.is_before(value))
 }
 
-// Whether there is a last of the rising values and the value is greater.
-fn is_after_last<T: Instant>(values: &[T], value: T) -> bool
+// Whether the value is greater than the last of the rising values; true where there are none.
+#[inline(always)]
+fn goes_last<T: Instant>(values: &[T], value: T) -> bool
     requires { IsRising T.at_most values.now }
     ensures { result ≡ true → IsPlaceFrom T.at_most values.now value (length values.now) }
 {
     match values.last() {
         Some(last) => last.is_before(value),
-        None => false,
+        None => true,
     }
 }
 
 /// Puts a value in its place among rising ones. Where memory runs out they are as before.
+#[inline(always)]
 pub fn put_in<T: Instant>(values: &mut Vec<T>, value: T) -> Result<(), AllocError>
+    requires { IsRising T.at_most values.old.items }
+    ensures ok { OnOk result (values.new.items ≡ put_in T.at_most value values.old.items) }
+    ensures rising { IsRising T.at_most values.new.items }
+    ensures err { OnErr result (values.new.items ≡ values.old.items) }
+{
+    if !goes_last(values.as_slice(), value) {
+        return put_between(values, value);
+    }
+    values.push(value)?;
+    Ok(())
+}
+
+// Puts a value in its place among rising ones, which is mostly not the last.
+#[inline(never)]
+fn put_between<T: Instant>(values: &mut Vec<T>, value: T) -> Result<(), AllocError>
     requires { IsRising T.at_most values.old.items }
     ensures ok { OnOk result (values.new.items ≡ put_in T.at_most value values.old.items) }
     ensures rising { IsRising T.at_most values.new.items }
@@ -78,6 +95,7 @@ impl<T: Instant> SortedList<T> {
     }
 
     /// Puts a value in its place. Where memory runs out the list is as before.
+    #[inline(always)]
     pub fn put(&mut self, value: T) -> Result<(), AllocError>
         ensures ok { OnOk result (self.new ≡ put_in T.at_most value self.old) }
         ensures err { OnErr result (self.new ≡ self.old) }

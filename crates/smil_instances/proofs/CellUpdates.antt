@@ -1,6 +1,6 @@
 -- Cells changed in turn: each that is among them once is changed once, and the others are as before.
-use Rattle.std.proofs.Common.{◌≡◌, refl, sym, ◌∙◌, ap, inl, inr, subst, ℕ, ◌+◌, List, [], ◌∷◌, ◌++◌, Option, Some, None, Bool, true, false, arith}
-use Rattle.std.specs.Prelude.{cond, map, fold, filter_map, count_by, is_some, option_to_list, ◌⊎◌}
+use Rattle.std.proofs.Common.{◌≡◌, refl, sym, ◌∙◌, ap, inl, inr, subst, ◌+◌, List, [], ◌∷◌, ◌++◌, Option, Some, None, Bool, true, false, arith}
+use Rattle.std.specs.Prelude.{cond, map, fold, filter_map, count_by, option_to_list, ◌⊎◌}
 use Rattle.std.specs.List.{cons_option}
 use Rattle.std.proofs.lemmas.List.Sums.{sum_by-cons}
 use Rattle.std.proofs.lemmas.List.{append-nil}
@@ -13,15 +13,11 @@ use Rattle.smil_instance_rows.specs.Rows.{ElementTimes}
 use Rattle.smil_instances.specs.Sources.{is_cell}
 use Rattle.smil_instance_rows.specs.Changes.{HasCell, cell_of, with_cell, with_add, with_adds, Fits}
 use Rattle.smil_instance_rows.proofs.CellChanges.{cell_with}
-use Rattle.smil_instances.specs.Intake.{shape_of, add_to, remaining_at, with_remainder, with_remainders, with_trims}
+use Rattle.smil_instances.specs.Intake.{shape_of, add_to, remaining_at, with_remainder}
 use Rattle.smil_instances.proofs.RowShapes.{cell_shape, other_cell, same_cell, cell_itself, has_too}
 
 pub count_first : (test : Cell → Bool) (c : Cell) (cs : List Cell) → count_by test (c ∷ cs) ≡ cond (test c) 1 0 + count_by test cs
 count_first test c cs = sum_by-cons (λ x. cond (test x) 1 0) c cs
-
-pub either_way : (t : Bool) (n : ℕ) → cond t n n ≡ n
-either_way true n = refl
-either_way false n = refl
 
 -- a change of one cell
 pub record IsUpdate (step : List ElementTimes → Cell → List ElementTimes) (change : Cell → List InstanceTime → List InstanceTime) : Type 0 where
@@ -68,14 +64,6 @@ module _ (h : History) where
 
 -- ---- adds
 
--- the cells that are added to
-abbrev pub cells_added : List Add → List Cell
-cells_added more = map (λ (a : Add). a.cell) more
-
-pub each_trim : (h : History) (rows : List ElementTimes) (more : List Add) → with_trims h rows more ≡ with_remainders h rows (cells_added more)
-each_trim h rows [] = refl
-each_trim h rows (a ∷ more) = each_trim h (with_remainder h rows a.cell) more
-
 pub adds_shape : (rows : List ElementTimes) (more : List Add) → map shape_of (with_adds rows more) ≡ map shape_of rows
 adds_shape rows [] = refl
 adds_shape rows (a ∷ more) = adds_shape (with_add rows a) more ∙ cell_shape rows a.cell (cell_of rows a.cell ++ a.kept ∷ [])
@@ -83,35 +71,6 @@ adds_shape rows (a ∷ more) = adds_shape (with_add rows a) more ∙ cell_shape 
 module _ (give : Cell → Option InstanceTime) where
   abbrev pub adds : List Cell → List Add
   adds cells = filter_map (λ c. add_to c (give c)) cells
-
-  -- what is added to a cell is added to each of its places among the cells
-  pub count_added : (d : Cell) (cells : List Cell) → count_by (is_cell d) (cells_added (adds cells)) ≡ cond (is_some (give d)) (count_by (is_cell d) cells) 0
-  count_added d [] = sym (either_way (is_some (give d)) 0)
-  count_added d (c ∷ cs) = by (give c) refl (is_cell d c) refl (is_some (give d)) refl (count_added d cs)
-    where
-      by : (o : Option InstanceTime) → give c ≡ o → (t : Bool) → is_cell d c ≡ t → (s : Bool) → is_some (give d) ≡ s → count_by (is_cell d) (cells_added (adds cs)) ≡ cond s (count_by (is_cell d) cs) 0 → count_by (is_cell d) (cells_added (cons_option (add_to c o) (adds cs))) ≡ cond s (count_by (is_cell d) (c ∷ cs)) 0
-      by None g true q true p rest =
-          let never : is_some {T = InstanceTime} None ≡ true = ap is_some (sym g ∙ ap give (sym (same_cell c d q))) ∙ p in
-          cc
-      by None g false q true p rest =
-          let same : count_by (is_cell d) (cells_added (adds cs)) ≡ count_by (is_cell d) cs = rest in
-          let first : count_by (is_cell d) (c ∷ cs) ≡ 0 + count_by (is_cell d) cs = count_first (is_cell d) c cs ∙ ap (λ b. cond b 1 0 + count_by (is_cell d) cs) q in
-          let whole : count_by (is_cell d) (cells_added (adds cs)) ≡ count_by (is_cell d) (c ∷ cs) = omega (arith, same, first) in
-          whole
-      by None g t q false p rest = rest
-      by (Some kept) g t q true p rest =
-          let same : count_by (is_cell d) (cells_added (adds cs)) ≡ count_by (is_cell d) cs = rest in
-          count_first (is_cell d) c (cells_added (adds cs))
-          ∙ ap (λ n. cond (is_cell d c) 1 0 + n) same
-          ∙ sym (count_first (is_cell d) c cs)
-      by (Some kept) g true q false p rest =
-          let never : is_some (Some kept) ≡ false = ap is_some (sym g ∙ ap give (sym (same_cell c d q))) ∙ p in
-          cc
-      by (Some kept) g false q false p rest =
-          let none : count_by (is_cell d) (cells_added (adds cs)) ≡ 0 = rest in
-          let first : count_by (is_cell d) (c ∷ cells_added (adds cs)) ≡ 0 + count_by (is_cell d) (cells_added (adds cs)) = count_first (is_cell d) c (cells_added (adds cs)) ∙ ap (λ b. cond b 1 0 + count_by (is_cell d) (cells_added (adds cs))) q in
-          let whole : count_by (is_cell d) (c ∷ cells_added (adds cs)) ≡ 0 = omega (arith, none, first) in
-          whole
 
   abbrev pub with_some : List ElementTimes → Cell → Option InstanceTime → List ElementTimes
   with_some rows c None = rows

@@ -1,36 +1,35 @@
 -- Entries that give nothing to an item.
-use Rattle.std.proofs.Common.{◌≡◌, refl, sym, ◌∙◌, ap, ℕ, List, length, Option, Some, None, false}
-use Rattle.std.specs.Prelude.{not, is_some, slice_get}
-use Rattle.smil_model.specs.declared.times.Time.{Time}
+use mathlib.Core.Bool.{and-false}
+use Rattle.std.proofs.Common.{◌≡◌, refl, sym, ◌∙◌, ap, ℕ, ℤ, List, length, Option, Some, None, Bool, true, false}
+use Rattle.std.specs.Prelude.{cond, not, is_some, slice_get, ◌&&◌, ◌+ℤ◌}
+use Rattle.std.specs.List.{list_any}
 use Rattle.smil_model.specs.declared.diary.Entry.{Entry}
 use Rattle.smil_model.specs.declared.diary.LogEntry.{LogEntry}
 use Rattle.smil_model.specs.declared.diary.Step.{Step}
-use Rattle.smil_model.specs.declared.diary.Step.TheVariants.{Began, Repeated}
 use Rattle.smil_model.specs.declared.document.Node.{Node}
 use Rattle.smil_model.specs.declared.document.Edge.{Edge}
-use Rattle.smil_model.specs.declared.document.Edge.TheVariants.{End}
+use Rattle.smil_model.specs.declared.document.Edge.TheVariants.{Begin, End}
 use Rattle.smil_model.specs.declared.document.Item.{Item}
 use Rattle.smil_model.specs.declared.document.Item.TheVariants.{Offset, Sync, Event, Repeat, Key, Indefinite}
-use Rattle.smil_model.specs.document.Document.{elements, element_named, previous_in_seq, serial_of, target, time_parent}
-use Rattle.smil_model.specs.document.Defaults.{items_of}
-use Rattle.smil_model.specs.diary.Diary.{History, up_to, with_entry}
-use Rattle.smil_model.specs.diary.Plays.{is_birth_under}
-use Rattle.smil_model.specs.interval.Instances.{edge_time, is_press}
+use Rattle.smil_model.specs.document.Document.{elements, element_named, previous_in_seq, serial_of, target}
+use Rattle.smil_model.specs.Times.{within_horizon}
+use Rattle.smil_model.specs.document.Defaults.{begin_list, items_of, restart_of}
+use Rattle.smil_model.specs.diary.Clocks.{outer, outer_stands}
+use Rattle.smil_model.specs.diary.Diary.{History, is_active, is_alive, up_to}
+use Rattle.smil_model.specs.interval.Instances.{hears, is_press, is_same_event, is_sensitive}
 use Rattle.smil_model.specs.reach.Reach.{subject_of}
-use Rattle.smil_laws.specs.Resolved.{is_opening}
 use Rattle.smil_instance_rows.specs.declared.cell.Cell.{Cell}
 use Rattle.smil_instance_rows.specs.Rows.{at_place}
+use Rattle.smil_instances.specs.declared.source.Source.{Source}
 use Rattle.smil_instances.specs.declared.source.Source.TheVariants as source
-use Rattle.smil_instances.specs.Laws.{IsUpTo}
 use Rattle.smil_instances.specs.Sources.{eventbase, source_at, source_by, source_of, syncbase_or}
-use Rattle.smil_instances.specs.Contribution.{given_at, given_edge, given_event, given_repeat, may_give, offset_given}
-use Rattle.smil_instances.specs.Intake.{given_item, given_to, given_under}
-use Rattle.smil_instances.specs.SettledTimes.{event_instances, heard_time, instances_of, named_instances, occurs_event, occurs_key, occurs_repeat, offset_instances, repeat_instances}
+use Rattle.smil_instances.specs.Contribution.{given_at, given_edge, given_event, given_repeat, is_end_heard, may_give, offset_given}
+use Rattle.smil_instances.specs.Intake.{given_item, given_to, given_under, IsCellOf}
+use Rattle.smil_instances.specs.SettledTimes.{heard_time, occurs_event, occurs_key, occurs_repeat}
 use Rattle.smil_instances.proofs.ConcernedCells.{source_here}
-use Rattle.smil_instances.proofs.NextItemTimes.{next_event, next_named, next_of, next_offset, next_repeat}
-use Rattle.smil_instances.proofs.NotedEntry.{kept-next}
+use Rattle.smil_instances.proofs.EntryGifts.{gift_is, source_of_item}
 use Rattle.smil_instances.proofs.UnconcernedItems.{no_press}
-use Rattle.smil_instances.proofs.UntouchedItems.{edges_left, event_other, heard_left, other_edge, repeat_other, start_left, unheard}
+use Rattle.smil_instances.proofs.UntouchedItems.{event_other, other_edge, repeat_other, unheard}
 
 -- ---- by the source of the item
 
@@ -88,47 +87,67 @@ module _ (h : History) (y : Entry) where
   pub none_there : (cell : Cell) → None ≡ serial_of (slice_get (elements h.nodes) cell.row) → given_to h y cell ≡ None
   none_there cell q = no_element cell (slice_get (elements h.nodes) cell.row) (sym q)
 
--- ---- an entry that is no birth and gives nothing leaves what is kept
+-- ---- an element that is not active hears nothing for its end items
 
-closed_birth : (step : Step) (o : Option Node) → is_opening step ≡ false → is_birth_under o step ≡ false
-closed_birth step None q = refl
-closed_birth (Began who begin) (Some p) q = cc
-closed_birth (Repeated who start) (Some p) q = cc
-closed_birth _ (Some p) q = refl
+module _ (h : History) (y : Entry) (e : Node) (off : is_active h.diary e.serial ≡ false) where
+  abbrev awake : Bool
+  awake = is_alive h e.serial && not (outer_stands h e.serial)
 
-no_time : (n : ℕ) (o : Option Time) → at_place n o ≡ None → o ≡ None
-no_time n None q = refl
-no_time n (Some t) q = cc
+  silent : (item : Item) → hears h e End item ≡ false
+  silent item =
+      ap (λ active. awake && is_sensitive active (restart_of h.nodes e) End (list_any (is_same_event h.nodes e.serial item) (begin_list h.nodes e))) off
+      ∙ and-false awake
 
-module _ (h : History) (y : Entry) (closed : is_opening y.step ≡ false) where
-  no_birth : (s : ℕ) → is_birth_under (time_parent h.nodes s) y.step ≡ false
-  no_birth s = closed_birth y.step (time_parent h.nodes s) closed
+  unheard_end : (item : Item) (offset : ℤ) (occurs : History → Step → Bool) → heard_time h e End item offset occurs h.diary y ≡ None
+  unheard_end item offset occurs =
+      ap (λ t. cond t (Some (within_horizon (outer h e.serial y.moment +ℤ offset))) None)
+      (ap (λ t. occurs (up_to h h.diary) y.step && t) (silent item) ∙ and-false (occurs (up_to h h.diary) y.step))
 
-  left : (e : Node) (side : Edge) (item : Item) → given_at h y e side item ≡ None → next_of h y e side item (instances_of h e side item) ≡ instances_of h e side item
-  left e side (Offset offset) q = by (previous_in_seq h.nodes e.serial) q
+  deaf_item : (item : Item) → is_end_heard (source_of h.nodes e.serial item) End ≡ true → given_at h y e End item ≡ None
+  deaf_item (Offset offset) q = by (previous_in_seq h.nodes e.serial) q
     where
-      by : (o : Option Node) → offset_given h y e.serial offset o ≡ None → next_offset h y e.serial offset o (offset_instances h e.serial offset o) ≡ offset_instances h e.serial offset o
-      by None r = start_left h y (time_parent h.nodes e.serial) offset (offset_instances h e.serial offset None) (no_birth e.serial)
-      by (Some x) r = edges_left h y e.serial x.serial offset End (no_time (length h.diary) (edge_time h e.serial x.serial offset y.moment End y.step) r) (no_birth e.serial) (no_birth x.serial)
-  left e side (Sync who edge offset) q = by (element_named h.nodes who) (no_time (length h.diary) (given_edge h y e.serial offset edge (element_named h.nodes who)) q)
+      by : (o : Option Node) → is_end_heard (syncbase_or source.Start End o) End ≡ true → offset_given h y e.serial offset o ≡ None
+      by None r = cc
+      by (Some x) r = cc
+  deaf_item (Sync who edge offset) q = by (element_named h.nodes who) q
     where
-      by : (o : Option Node) → given_edge h y e.serial offset edge o ≡ None → next_named h y e.serial offset edge o (named_instances h e.serial offset edge o) ≡ named_instances h e.serial offset edge o
-      by None r = refl
-      by (Some x) r = edges_left h y e.serial x.serial offset edge r (no_birth e.serial) (no_birth x.serial)
-  left e side (Event who name offset) q = by (target h.nodes e.serial who) (no_time (length h.diary) (given_event h y e side (Event who name offset) offset name (target h.nodes e.serial who)) q)
+      by : (o : Option Node) → is_end_heard (syncbase_or source.Nothing edge o) End ≡ true → at_place (length h.diary) (given_edge h y e.serial offset edge o) ≡ None
+      by None r = cc
+      by (Some x) r = cc
+  deaf_item (Event who name offset) q = ap (at_place (length h.diary)) (by (target h.nodes e.serial who))
     where
-      by : (o : Option ℕ) → given_event h y e side (Event who name offset) offset name o ≡ None → next_event h y e side (Event who name offset) offset name o (event_instances h e side (Event who name offset) offset name o) ≡ event_instances h e side (Event who name offset) offset name o
-      by None r = refl
-      by (Some x) r = heard_left h y e side (Event who name offset) offset (occurs_event x name) r (no_birth e.serial)
-  left e side (Repeat who n offset) q = by (target h.nodes e.serial who) (no_time (length h.diary) (given_repeat h y e side (Repeat who n offset) offset n (target h.nodes e.serial who)) q)
+      by : (o : Option ℕ) → given_event h y e End (Event who name offset) offset name o ≡ None
+      by None = refl
+      by (Some x) = unheard_end (Event who name offset) offset (occurs_event x name)
+  deaf_item (Repeat who n offset) q = ap (at_place (length h.diary)) (by (target h.nodes e.serial who))
     where
-      by : (o : Option ℕ) → given_repeat h y e side (Repeat who n offset) offset n o ≡ None → next_repeat h y e side (Repeat who n offset) offset n o (repeat_instances h e side (Repeat who n offset) offset n o) ≡ repeat_instances h e side (Repeat who n offset) offset n o
-      by None r = refl
-      by (Some x) r = heard_left h y e side (Repeat who n offset) offset (occurs_repeat x n) r (no_birth e.serial)
-  left e side (Key key offset) q =
-      heard_left h y e side (Key key offset) offset (occurs_key key)
-      (no_time (length h.diary) (heard_time h e side (Key key offset) offset (occurs_key key) h.diary y) q) (no_birth e.serial)
-  left e side Indefinite q = refl
+      by : (o : Option ℕ) → given_repeat h y e End (Repeat who n offset) offset n o ≡ None
+      by None = refl
+      by (Some x) = unheard_end (Repeat who n offset) offset (occurs_repeat x n)
+  deaf_item (Key key offset) q = ap (at_place (length h.diary)) (unheard_end (Key key offset) offset (occurs_key key))
+  deaf_item Indefinite q = refl
 
-  pub ungiven_stays : (e : Node) (side : Edge) (item : Item) → IsUpTo y.moment h.diary → given_at h y e side item ≡ None → instances_of (with_entry h y) e side item ≡ instances_of h e side item
-  ungiven_stays e side item timely q = kept-next h y timely e side item ∙ left e side item q
+-- and is given nothing for them
+pub none_for_deaf : (h : History) (y : Entry) (cell : Cell) (who : ℕ) (s : Source) → IsCellOf h.nodes cell who s → is_end_heard s cell.side ≡ true → is_active h.diary who ≡ false → given_to h y cell ≡ None
+none_for_deaf h y cell who s is q off =
+    gift_is h.nodes cell who s is h y refl ∙ by_side cell.side refl (slice_get (items_of h.nodes cell.side is.element) cell.item) refl
+  where
+    by_item : (item : Item) → slice_get (items_of h.nodes cell.side is.element) cell.item ≡ Some item → is_end_heard (source_of h.nodes is.element.serial item) cell.side ≡ true
+    by_item item at = ap (λ n. is_end_heard (source_of h.nodes n item) cell.side) is.serial ∙ ap (λ t. is_end_heard t cell.side) (sym (source_of_item h.nodes cell who s is item at)) ∙ q
+
+    by_side : (side : Edge) → cell.side ≡ side → (o : Option Item) → slice_get (items_of h.nodes cell.side is.element) cell.item ≡ o → given_item h y is.element cell.side o ≡ None
+    by_side side on None at = refl
+    by_side Begin on (Some item) at =
+        let never : is_end_heard (source_of h.nodes is.element.serial item) Begin ≡ true = ap (is_end_heard (source_of h.nodes is.element.serial item)) (sym on) ∙ by_item item at in
+        by_source (source_of h.nodes is.element.serial item) never
+      where
+        by_source : (t : Source) → is_end_heard t Begin ≡ true → given_at h y is.element cell.side item ≡ None
+        by_source source.Start r = cc
+        by_source (source.Syncbase x edge) r = cc
+        by_source (source.Eventbase x) r = cc
+        by_source (source.Key key) r = cc
+        by_source source.Nothing r = cc
+    by_side End on (Some item) at =
+        ap (λ side. given_at h y is.element side item) on
+        ∙ deaf_item h y is.element (ap (is_active h.diary) is.serial ∙ off) item
+        (ap (is_end_heard (source_of h.nodes is.element.serial item)) (sym on) ∙ by_item item at)

@@ -1,5 +1,5 @@
 -- Rows that go back to a mark though something was added and less is kept.
-use Rattle.std.proofs.Common.{◌≡◌, refl, sym, ◌∙◌, ap, subst, ℕ, ◌+◌, ◌<◌, List, [], ◌∷◌, ◌++◌, Bool, true, false, inl, inr, length, get_or, map, take, Some}
+use Rattle.std.proofs.Common.{◌≡◌, refl, sym, ◌∙◌, ap, subst, ℕ, ◌+◌, ◌<◌, List, [], ◌∷◌, ◌++◌, Bool, true, false, inl, inr, length, get_or, take, Some}
 use Rattle.std.specs.Prelude.{nat_eq}
 use Rattle.std.specs.List.{AllByRecursion}
 use Rattle.std.proofs.lemmas.Bool.{eqb-true, eqb-false}
@@ -13,30 +13,18 @@ use Rattle.smil_instance_rows.specs.Rows.{ElementTimes}
 use Rattle.smil_instance_rows.specs.Changes.{cell_of, no_row, row_at, with_add, with_adds, with_cell}
 use Rattle.smil_instance_rows.specs.Notes.{EachGoes, Goes, GoesBackTheSame, HasNoted, MarkedRows, is_noted, rows_back}
 use Rattle.smil_instance_rows.proofs.Noted.{adds_go, cell_hidden, cell_stays, has_both}
-use Rattle.smil_instances.specs.Intake.{remaining_at, with_remainder, with_remainders, with_trims}
-use Rattle.smil_instances.specs.Noted.{AreNoted, IsNoted, KeepAll, trimmed}
+use Rattle.smil_instances.specs.Intake.{remaining_at, with_remainder, with_remainders}
+use Rattle.smil_instances.specs.Noted.{AreNoted, IsNoted, KeepAll}
 
 -- ---- rows from which nothing is to be taken out
 
--- the cells of adds are trimmed one after another
-trims_are : (h : History) (now : List ElementTimes) (adds : List Add) → with_trims h now adds ≡ with_remainders h now (map (λ (a : Add). a.cell) adds)
-trims_are h now [] = refl
-trims_are h now (a ∷ adds) = trims_are h (with_remainder h now a.cell) adds
-
 module _ (h : History) (rows : List ElementTimes) where
   -- where all is still kept, to trim changes nothing
-  all_kept : (cells : List Cell) → KeepAll h rows cells → with_remainders h rows cells ≡ rows
+  pub all_kept : (cells : List Cell) → KeepAll h rows cells → with_remainders h rows cells ≡ rows
   all_kept [] each = refl
   all_kept (c ∷ cs) each =
       ap (λ rs. with_remainders h rs cs) (ap (with_cell rows c) each.0 ∙ cell_stays rows c)
       ∙ all_kept cs each.1
-
-  -- so the rows are what trimming makes of them
-  pub nothing_lost : (t : Bool) (cells : List Cell) (adds : List Add) (settled : List ElementTimes) → KeepAll h rows (trimmed t cells adds) → (t ≡ true → with_remainders h rows cells ≡ settled) → (t ≡ false → with_trims h rows adds ≡ settled) → rows ≡ settled
-  nothing_lost true cells adds settled kept born other = sym (all_kept cells kept) ∙ born refl
-  nothing_lost false cells adds settled kept born other =
-      sym (trims_are h rows adds ∙ all_kept (map (λ (a : Add). a.cell) adds) kept)
-      ∙ other refl
 
 -- ---- rows that go back
 
@@ -79,10 +67,6 @@ module _ (h : History) (rows : List ElementTimes) (noted : MarkedRows) where
   pub trims_go : (cells : List Cell) → AreNoted h rows noted.notes cells → rows_back (with_remainders h rows cells) noted ≡ rows_back rows noted
   trims_go cells each = all_go rows cells (λ r free. refl) each
 
-  -- so do the items that got something
-  pub added_go : (adds : List Add) → AreNoted h rows noted.notes (map (λ (a : Add). a.cell) adds) → rows_back (with_trims h rows adds) noted ≡ rows_back rows noted
-  added_go adds each = ap (λ rs. rows_back rs noted) (trims_are h rows adds) ∙ trims_go (map (λ (a : Add). a.cell) adds) each
-
 -- ---- items that are noted one after another
 
 -- the first ones, with one more
@@ -99,11 +83,6 @@ each_more P xs i d inside each one = each_next P P xs i d inside (λ x p. p) eac
 pub still_noted : (h : History) (rows : List ElementTimes) (noted now : MarkedRows) → HasNoted rows noted now → (cell : Cell) → IsNoted h rows noted.notes cell → IsNoted h rows now.notes cell
 still_noted h rows noted now more cell (inl there) = inl (more.still cell.row there)
 still_noted h rows noted now more cell (inr kept) = inr kept
-
--- what holds of the cell of each add holds of all these cells
-pub each_cell : (P : Cell → Type 0) (adds : List Add) → AllByRecursion (λ (a : Add). P a.cell) adds → AllByRecursion P (map (λ (a : Add). a.cell) adds)
-each_cell P [] each = tt
-each_cell P (a ∷ adds) each = (each.0, each_cell P adds each.1)
 
 -- what goes back goes still where more is noted
 pub still_goes : (rows : List ElementTimes) (noted now : MarkedRows) → HasNoted rows noted now → (place : ℕ) (add : Add) → Goes noted.notes place add → Goes now.notes place add

@@ -36,6 +36,8 @@ pub mod SumsFit
 pub mod RowsAfterEntry
 pub mod IdTargets
 pub mod KeptTimes
+pub mod KeptGifts
+pub mod ChildlessElements
 pub mod DiaryTimes
 pub mod UnconcernedItems
 pub mod EmptyGifts

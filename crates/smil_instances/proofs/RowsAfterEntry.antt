@@ -3,7 +3,6 @@ use Rattle.std.proofs.Common.{◌≡◌, refl, sym, ◌∙◌, ap, subst, inl, i
 use Rattle.std.specs.Prelude.{cond, fold, map, get_or, slice_get, ◌&&◌, is_some, count_by, option_to_list, ◌⊎◌, nat_le, ℤ}
 use Rattle.std.specs.List.{cons_option}
 use Rattle.std.proofs.lemmas.List.Elements.{All-cons}
-use Rattle.std.proofs.lemmas.List.{append-nil, get_or-map, length-map}
 use Rattle.smil_model.specs.declared.times.Time.{Time}
 use Rattle.smil_model.specs.declared.diary.Entry.{Entry}
 use Rattle.smil_model.specs.declared.diary.LogEntry.{LogEntry}
@@ -15,11 +14,12 @@ use Rattle.smil_model.specs.declared.document.Item.TheVariants.{Offset, Sync, Ev
 use Rattle.smil_model.specs.declared.document.Node.{Node}
 use Rattle.smil_model.specs.document.Document.{elements, element_named, previous_in_seq, target}
 use Rattle.smil_model.specs.diary.Diary.{History, with_past}
+use Rattle.smil_model.specs.diary.Lawful.{IsLawful}
+use Rattle.smil_model.specs.document.Valid.{IsDistinct}
 use Rattle.smil_model.specs.diary.Clocks.{parent_start}
 use Rattle.smil_model.specs.interval.Instances.{edge_time}
 use Rattle.smil_model.specs.reach.Reach.{key_of, subject_of}
 use Rattle.smil_instance_rows.specs.declared.item_times.InstanceTime.{InstanceTime}
-use Rattle.smil_instance_rows.specs.declared.cell.Add.{Add}
 use Rattle.smil_instance_rows.specs.declared.cell.Cell.{Cell}
 use Rattle.smil_instances.specs.Laws.{IsUpTo}
 use Rattle.smil_instance_rows.specs.Places.{IsNotAfter}
@@ -31,13 +31,13 @@ use Rattle.smil_model.specs.document.Defaults.{items_of}
 use Rattle.smil_laws.specs.Resolved.{is_opening}
 use Rattle.smil_diary.proofs.PlaceLists.{past-length}
 use Rattle.smil_instance_rows.specs.Changes.{HasCell, cell_of, with_adds, Fits}
-use Rattle.smil_instances.specs.Updates.{EntriesAreTakenIn, OnlyConcernedChange, concerned_by, remaining}
+use Rattle.smil_instances.specs.Updates.{BearsNone, EntriesAreTakenIn, OnlyConcernedChange, concerned_by, remaining}
 use Rattle.smil_instances.proofs.PlacedLists.{placed}
-use Rattle.smil_instances.specs.Intake.{shape_of, adds_to, given_item, given_to, given_under, is_concerned_cell, concerned_under, remaining_at, remaining_under, with_remainder, with_remainders, HasItem, HaveItems, AreRowsOf, AreToItems, with_trims}
+use Rattle.smil_instances.specs.Intake.{shape_of, adds_to, given_item, given_to, given_under, is_concerned_cell, concerned_under, remaining_at, remaining_under, with_remainder, with_remainders, HasItem, HaveItems, AreRowsOf}
 use Rattle.smil_instances.proofs.RowShapes.{same_rows, cell_itself, has_too, item_cell, kept_in, kept_item, kept_under, settled_cell, settled_shape}
-use Rattle.smil_instances.proofs.EmptyGifts.{ungiven_stays}
-use Rattle.smil_instances.proofs.CellUpdates.{cells_added, count_added, count_first, each_trim, either_way, all_other, all_own, all_shape, each_add, fit, gifts, trims, with_given, and_given, IsReady}
-use Rattle.smil_instances.proofs.ConcernedCells.{source_here}
+use Rattle.smil_instances.proofs.KeptGifts.{kept_with_gift}
+use Rattle.smil_instances.proofs.CellUpdates.{count_first, all_other, all_own, all_shape, each_add, fit, gifts, trims, with_given, and_given, IsReady}
+use Rattle.smil_instances.proofs.ConcernedCells.{element_alone, source_here}
 
 -- ---- concerned cells have items
 
@@ -206,9 +206,12 @@ module _ (nodes : List Node) (log : List LogEntry) (before : List Entry) (y : En
         ∙ ap (λ o. remaining now e.serial (source_of nodes e.serial item) (kept_in past cell ++ option_to_list o)) (sym given_here)
         ∙ sym (trimmed_there (kept_in past cell ++ option_to_list (given_to past y cell)))
 
-    ungiven : IsUpTo y.moment before → is_opening y.step ≡ false → given_to past y cell ≡ None → kept_in now cell ≡ kept_in past cell
-    ungiven timely closed q =
-        kept_now ∙ ungiven_stays past y closed e cell.side item timely (sym given_here ∙ q) ∙ sym kept_past
+    grown : IsDistinct nodes → IsLawful now → BearsNone nodes y.step → IsUpTo y.moment before → kept_in now cell ≡ kept_in past cell ++ option_to_list (given_to past y cell)
+    grown distinct lawful bears timely =
+        kept_now
+        ∙ kept_with_gift past y lawful bears e cell.side (element_alone nodes cell.row e distinct here) item timely
+        ∙ ap (λ ks. ks ++ option_to_list (given_at past y e cell.side item)) (sym kept_past)
+        ∙ ap (λ o. kept_in past cell ++ option_to_list o) (sym given_here)
 
     left : OnlyConcernedChange → IsUpTo y.moment before → test cell ≡ false → kept_in now cell ≡ kept_in past cell
     left law timely q =
@@ -256,9 +259,9 @@ module _ (nodes : List Node) (log : List LogEntry) (before : List Entry) (y : En
         by d true q = inr (those d ∙ ap (λ t. cond t 1 0) q, ready d q)
         by d false q = inl (those d ∙ ap (λ t. cond t 1 0) q)
 
-    -- a cell is trimmed once, or it is given nothing and what is kept for it stays
+    -- a cell is trimmed once, or what is kept for it stays, with what it is given
     abbrev IsDone : List Cell → Cell → Type 0
-    IsDone trimmed d = (count_by (is_cell d) trimmed ≡ 1) ⊎ ((count_by (is_cell d) trimmed ≡ 0) × ((given_to past y d ≡ None) × (kept_in now d ≡ kept_in past d)))
+    IsDone trimmed d = (count_by (is_cell d) trimmed ≡ 1) ⊎ ((count_by (is_cell d) trimmed ≡ 0) × (kept_in now d ≡ kept_in past d ++ option_to_list (given_to past y d)))
 
     -- the rows are then those of the diary with the entry
     done_in : (trimmed : List Cell) → ((d : Cell) → test d ≡ true → IsDone trimmed d) → ((d : Cell) → test d ≡ false → count_by (is_cell d) trimmed ≡ 0) → EntriesAreTakenIn → OnlyConcernedChange → IsUpTo y.moment before → with_remainders now (with_adds rows (adds_to past y cells)) trimmed ≡ settled_rows now
@@ -292,10 +295,8 @@ module _ (nodes : List Node) (log : List LogEntry) (before : List Entry) (y : En
             all_other (with_remainder now) (remaining_at now) (trims now) (with_adds rows (adds_to past y cells)) d trimmed p.0
             ∙ ap (λ rs. cell_of rs d) added_is
             ∙ all_own (with_given (given_to past y)) (and_given (given_to past y)) (gifts (given_to past y)) rows d cells has once
-            ∙ ap (λ o. cell_of rows d ++ option_to_list o) (p.1).0
-            ∙ append-nil (cell_of rows d)
-            ∙ old_cell d
-            ∙ sym (p.1).1
+            ∙ ap (λ ks. ks ++ option_to_list (given_to past y d)) (old_cell d)
+            ∙ sym p.1
             ∙ sym (settled_cell now d)
 
         other : (d : Cell) → test d ≡ false → count_by (is_cell d) cells ≡ 0 → cell_of (with_remainders now (with_adds rows (adds_to past y cells)) trimmed) d ≡ cell_of (settled_rows now) d
@@ -316,25 +317,11 @@ module _ (nodes : List Node) (log : List LogEntry) (before : List Entry) (y : En
     taken_in =
         done_in cells (λ d q. inl (those d ∙ ap (λ t. cond t 1 0) q)) (λ d q. those d ∙ ap (λ t. cond t 1 0) q)
 
-    -- only concerned cells are added to
-    added_off : (d : Cell) → test d ≡ false → count_by (is_cell d) (cells_added (adds_to past y cells)) ≡ 0
-    added_off d q = count_added (given_to past y) d cells ∙ ap (λ n. cond (is_some (given_to past y d)) n 0) (those d ∙ ap (λ t. cond t 1 0) q) ∙ either_way (is_some (given_to past y d)) 0
-
-    -- each of the adds is to an item
-    pub adds_to_items : AreToItems nodes (adds_to past y cells)
-    adds_to_items = λ i d below.
-        subst (HasItem nodes) (get_or-map (λ (a : Add). a.cell) (adds_to past y cells) i d d.cell below)
-        (have_items nodes (is_opening y.step) (subject_of log y.step) (key_of log y.step) (cells_added (adds_to past y cells)) added_off i d.cell
-        (subst (λ n. i < n) (sym (length-map (adds_to past y cells) (λ (a : Add). a.cell))) below))
-
-    -- where the entry is no birth, and only the cells that are added to are trimmed
-    pub taken_in_added : is_opening y.step ≡ false → EntriesAreTakenIn → OnlyConcernedChange → IsUpTo y.moment before → with_trims now (with_adds rows (adds_to past y cells)) (adds_to past y cells) ≡ settled_rows now
-    taken_in_added closed entries only timely =
-        each_trim now (with_adds rows (adds_to past y cells)) (adds_to past y cells)
-        ∙ done_in (cells_added (adds_to past y cells)) (λ d q. by d q (given_to past y d) refl) added_off entries only timely
+    -- where the entry is no birth, and none are trimmed
+    pub taken_in_unborn : IsDistinct nodes → IsLawful now → BearsNone nodes y.step → EntriesAreTakenIn → OnlyConcernedChange → IsUpTo y.moment before → with_adds rows (adds_to past y cells) ≡ settled_rows now
+    taken_in_unborn distinct lawful bears entries only timely = done_in [] stays (λ d q. refl) entries only timely
       where
-        by : (d : Cell) → test d ≡ true → (o : Option InstanceTime) → given_to past y d ≡ o → IsDone (cells_added (adds_to past y cells)) d
-        by d q (Some kept) g = inl (count_added (given_to past y) d cells ∙ ap (λ o. cond (is_some o) (count_by (is_cell d) cells) 0) g ∙ those d ∙ ap (λ t. cond t 1 0) q)
-        by d q None g =
+        stays : (d : Cell) → test d ≡ true → IsDone [] d
+        stays d q =
             let is = item_of nodes d (concerned_item nodes (is_opening y.step) (subject_of log y.step) (key_of log y.step) d q) in
-            inr (count_added (given_to past y) d cells ∙ ap (λ o. cond (is_some o) (count_by (is_cell d) cells) 0) g, (g, ungiven d is.element is.item is.here is.at timely closed g))
+            inr (refl, grown d is.element is.item is.here is.at distinct lawful bears timely)

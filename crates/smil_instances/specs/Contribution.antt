@@ -105,6 +105,12 @@ may_give on step (source.Eventbase x) = is_option x on
 may_give on step (source.Key key) = not (is_some on)
 may_give on step source.Nothing = false
 
+-- whether an item with this source is one for an event or a key in an end list
+abbrev pub is_end_heard : Source → Edge → Bool
+is_end_heard (source.Eventbase x) End = true
+is_end_heard (source.Key key) End = true
+is_end_heard s edge = false
+
 -- what an entry gives to an item that means the element `of` or waits for a key:
 -- a time where it is what the item waits for and e hears it
 abbrev pub given_heard : History → Entry → Node → Edge → Item → Option ℕ → Option InstanceTime

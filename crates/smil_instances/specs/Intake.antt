@@ -55,10 +55,6 @@ HasItem nodes cell = is_some (item_at nodes cell) ≡ true
 abbrev pub HaveItems : List Node → List Cell → Type 0
 HaveItems nodes cells = All (HasItem nodes) cells
 
--- each of the adds is to an item
-abbrev pub AreToItems : List Node → List Add → Type 0
-AreToItems nodes adds = All (λ (a : Add). HasItem nodes a.cell) adds
-
 -- the cell is of the element with this serial, and its item has this source
 pub record IsCellOf (nodes : List Node) (cell : Cell) (who : ℕ) (source : Source) : Type 0 where
   pub element : Node
@@ -121,10 +117,6 @@ with_remainder h rows cell = with_cell rows cell (remaining_at h cell (cell_of r
 -- the rows with each of these cells trimmed in turn
 abbrev pub with_remainders : History → List ElementTimes → List Cell → List ElementTimes
 with_remainders h rows cells = fold (with_remainder h) rows cells
-
--- the rows with the cells of these adds trimmed in turn
-abbrev pub with_trims : History → List ElementTimes → List Add → List ElementTimes
-with_trims h rows adds = fold (λ rs (a : Add). with_remainder h rs a.cell) rows adds
 
 -- ---- rows of a document
 

@@ -1,8 +1,7 @@
 -- Items whose rows are noted, so that all can go back to a mark.
-use Rattle.std.specs.Prelude.{◌≡◌, ◌⊎◌, List, map, Bool, true, if◌then◌else◌}
+use Rattle.std.specs.Prelude.{◌≡◌, ◌⊎◌, List, true}
 use Rattle.std.specs.List.{AllByRecursion}
 use Rattle.smil_model.specs.diary.Diary.{History}
-use Rattle.smil_instance_rows.specs.declared.cell.Add.{Add}
 use Rattle.smil_instance_rows.specs.declared.cell.Cell.{Cell}
 use Rattle.smil_instance_rows.specs.declared.item_times.InstanceTime.{InstanceTime}
 use Rattle.smil_instance_rows.specs.declared.notes.RowNote.{RowNote}
@@ -33,8 +32,3 @@ IsNoted h rows notes cell = (is_noted notes cell.row ≡ true) ⊎ KeepsAll h ro
 
 abbrev pub AreNoted : History → List ElementTimes → List RowNote → List Cell → Type 0
 AreNoted h rows notes cells = AllByRecursion (IsNoted h rows notes) cells
-
--- the cells that are trimmed after an entry: at a birth all that it concerns, else those to which
--- something was added
-abbrev pub trimmed : Bool → List Cell → List Add → List Cell
-trimmed is_birth cells adds = if is_birth then cells else map (λ (a : Add). a.cell) adds

@@ -1,11 +1,14 @@
 -- What is kept for an item after one more entry, and which items an entry concerns.
 use Rattle.std.specs.Prelude.{◌≡◌, ℕ, min, List, ◌++◌, Bool, true, false, Option, Some, None, option_to_list, is_some}
 use Rattle.smil_model.specs.declared.diary.Entry.{Entry}
+use Rattle.smil_model.specs.declared.diary.Step.{Step}
 use Rattle.smil_model.specs.declared.document.Node.{Node}
 use Rattle.smil_model.specs.declared.document.Edge.{Edge}
 use Rattle.smil_model.specs.declared.document.Item.{Item}
-use Rattle.smil_model.specs.document.Document.{elements, node_at}
+use Rattle.smil_model.specs.document.Document.{elements, node_at, time_parent}
 use Rattle.smil_model.specs.diary.Diary.{History, birth, with_entry}
+use Rattle.smil_model.specs.diary.Lawful.{has_element}
+use Rattle.smil_model.specs.diary.Plays.{is_birth_under}
 use Rattle.smil_model.specs.reach.Reach.{subject_of, key_of}
 use Rattle.smil_laws.specs.Resolved.{is_opening}
 use Rattle.smil_instance_rows.specs.declared.item_times.InstanceTime.{InstanceTime}
@@ -57,3 +60,8 @@ BasesAreElements =
     → node_at (elements nodes) e.serial ≡ Some e
     → base_of (source_of nodes e.serial item) ≡ Some x
     → is_some (node_at (elements nodes) x) ≡ true
+
+-- the step is no birth of any element
+abbrev pub BearsNone : List Node → Step → Type 0
+BearsNone nodes step =
+    (s : ℕ) → has_element nodes s ≡ true → is_birth_under (time_parent nodes s) step ≡ false

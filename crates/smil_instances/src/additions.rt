@@ -1,18 +1,22 @@
 //! What the last entry of a diary gives to items.
 
-ghost use Rattle.std.specs.Prelude.{◌≡◌, List, [], ◌∷◌, ◌++◌, OnOk};
+ghost use Rattle.std.specs.Prelude.{◌≡◌, ◌<◌, ◌&&◌, not, List, [], ◌∷◌, ◌++◌, OnOk, length};
 ghost use Rattle.smil_model.specs.declared.diary.Entry.{Entry as AnyEntry};
 ghost use Rattle.smil_model.specs.declared.document.Edge.TheVariants as edge;
 ghost use Rattle.smil_model.specs.reach.Reach.{subject_of};
-ghost use Rattle.smil_instances.specs.Contribution.{is_edge, may_give};
+ghost use Rattle.smil_model.specs.diary.Diary.{History, is_active};
+ghost use Rattle.smil_instances.specs.Before.{IsBefore};
+ghost use Rattle.smil_instances.specs.Contribution.{is_edge, is_end_heard, may_give};
 ghost use Rattle.smil_instances.specs.Entry.{HasArrived, HasDependents};
 ghost use Rattle.smil_instances.specs.Intake.{history_with, default_of, IsCellOf, IsUnstated, given_to as gift, adds_to};
 
 use super::arrival::Arrival;
+use super::before::was_active;
 use super::contribution::given;
 use super::items::{CellItem, ListItem};
 use super::source::Source;
 use super::steps::subject;
+use smil_diary::Book;
 use smil_instance_rows::{Add, Cell, InstanceTime};
 use smil_model::{Edge, Item, Step};
 use std::alloc::AllocError;
@@ -61,7 +65,23 @@ fn given_to(cell: Cell, on: Option<u32>, step: Step, arrival: &Arrival<'_>) -> O
         return None;
     }
     let who = arrival.history.tree.element_at(cell.row)?;
+    if is_deaf(source, cell.side, who, arrival.history.book) {
+        return None;
+    }
     given_item(arrival, CellItem { cell, who, source })
+}
+
+// Whether an item with this source is one for an event or a key in the end list of an element that
+// was not active before the last entry of the book: such an element hears nothing for it.
+fn is_deaf(source: Source, side: Edge, who: u32, book: &Book) -> bool
+    requires { 0 < length book.now }
+    ensures { (h : History) (y : AnyEntry) → IsBefore h y book.now
+        → result ≡ (is_end_heard source side && not (is_active h.diary who)) }
+{
+    match (source, side) {
+        (Source::Eventbase { .. } | Source::Key { .. }, Edge::End) => !was_active(book, who),
+        _ => false,
+    }
 }
 
 // Whether an entry with this step, which is on this element or on none, may give something to an

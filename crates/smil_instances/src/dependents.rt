@@ -1,16 +1,19 @@
 //! What the times of the items of a document follow from, and which items an entry concerns.
 
 ghost use Rattle.std.specs.Prelude.{◌≡◌, IfOk};
+ghost use Rattle.std.specs.FinMap.{get};
+ghost use Rattle.smil_model.specs.document.Document.{elements, serials};
 ghost use Rattle.smil_instances.specs.Dependents.{AreDependentsOf, cells_in, keyed_in, source_in};
+ghost use Rattle.smil_instances.specs.Spread.{IsIndex};
 
 use super::dependent_lists::DependentLists;
-use super::elements::{children_before, places_of};
+use super::elements::children_before;
 use super::fill::fill;
 use super::fresh::fresh_rows;
 use super::keys::cells_by_key;
 use super::source::Source;
 use smil_instance_rows::Cell;
-use smil_model::GrowingList;
+use smil_model::{GrowingList, SerialTable};
 use smil_tree::Tree;
 use std::alloc::{AllocError, Global};
 use std::marker::Model;
@@ -44,17 +47,22 @@ impl Model for Dependents {
 }
 
 impl Dependents {
-    /// What the items of a document follow from, and which of them an entry concerns, unless memory
-    /// runs out. It takes time near linear in the nodes and the items of the document.
-    pub fn of(alloc: Global, tree: &Tree) -> Result<Dependents, AllocError>
+    /// What the items of a document follow from, and which of them an entry concerns, by the places
+    /// of its elements; unless memory runs out. It takes time near linear in the nodes and the items
+    /// of the document.
+    pub(crate) fn of(
+        alloc: Global,
+        tree: &Tree,
+        places: &SerialTable,
+    ) -> Result<Dependents, AllocError>
+        requires { IsIndex (serials (elements tree.now.nodes)) (get places.now) }
         ensures { IfOk result (λ dependents. AreDependentsOf tree.now.nodes dependents) }
     {
         let whos = tree.elements();
         let befores = children_before(alloc, tree, whos)?;
         let mut rows = fresh_rows(alloc, tree, whos, &befores)?;
         let keys = cells_by_key(alloc, &rows)?;
-        let places = places_of(alloc, tree, whos)?;
-        fill(&mut rows, tree, &places, whos)?;
+        fill(&mut rows, tree, places, whos)?;
         Ok(Dependents {
             rows: DependentLists::of(alloc, &rows)?,
             keys,

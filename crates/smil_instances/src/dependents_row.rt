@@ -17,8 +17,8 @@ use std::marker::Model;
 pub struct DependentsRow {
     begins: SmallVec<Source, 1>,
     ends: SmallVec<Source, 1>,
-    readers: SmallVec<Cell, 1>,
-    births: SmallVec<Cell, 1>,
+    readers: SmallVec<Cell, 3>,
+    births: SmallVec<Cell, 3>,
 }
 
 impl Model for DependentsRow {

@@ -86,14 +86,14 @@ impl Instances {
         ensures { (log : List AnyLogEntry)
             → IfOk result (λ value. IsSettled value tree.now log []) }
     {
-        let dependents = Rc::new(alloc, Dependents::of(alloc, tree)?)?;
+        let dependents = Rc::new(alloc, Dependents::of(alloc, tree, places.as_ref())?)?;
         Instances::over(alloc, tree, places, dependents)
     }
 
     /// The instance times of an edited document to which nothing has happened yet, by those of the
-    /// document before and the places of its own elements; unless memory runs out. Where the two are alike, as `are_alike` of
-    /// smil_graph says, what their items follow from is shared, and else made anew. It takes memory
-    /// for each element and for each item.
+    /// document before and the places of its own elements; unless memory runs out. Where the two are
+    /// alike, as `are_alike` of smil_graph says, what their items follow from is shared, and else
+    /// made anew. It takes memory for each element and for each item.
     pub fn revised(
         &self,
         before: &Tree,
@@ -105,20 +105,26 @@ impl Instances {
         ensures { (log : List AnyLogEntry)
             → IfOk result (λ value. IsSettled value after.now log []) }
     {
-        let dependents = self.dependents_of(before, after)?;
+        let dependents = self.dependents_of(before, after, places.as_ref())?;
         Instances::over(self.alloc, after, places, dependents)
     }
 
-    // What the items of an edited document follow from.
-    fn dependents_of(&self, before: &Tree, after: &Tree) -> Result<Rc<Dependents>, AllocError>
-        requires { AreDependentsOf before.now.nodes self.now.dependents }
+    // What the items of an edited document, with the places of its elements, follow from.
+    fn dependents_of(
+        &self,
+        before: &Tree,
+        after: &Tree,
+        places: &SerialTable,
+    ) -> Result<Rc<Dependents>, AllocError>
+        requires dependents { AreDependentsOf before.now.nodes self.now.dependents }
+        requires places { IsIndex (serials (elements after.now.nodes)) (get places.now) }
         ensures { IfOk result (λ dependents. AreDependentsOf after.now.nodes dependents.value) }
     {
         if are_alike(before, after) {
             let shared = self.dependents.clone()?;
             Ok(shared)
         } else {
-            let own = Dependents::of(self.alloc, after)?;
+            let own = Dependents::of(self.alloc, after, places)?;
             Ok(Rc::new(self.alloc, own)?)
         }
     }

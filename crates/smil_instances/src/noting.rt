@@ -1,12 +1,11 @@
 //! Rows that are noted before the last entry of a diary changes them.
 
-ghost use Rattle.std.specs.Prelude.{◌≡◌, List, OnOk, IfOk, false, map};
+ghost use Rattle.std.specs.Prelude.{◌≡◌, List, OnOk, IfOk, false};
 ghost use Rattle.smil_model.specs.declared.diary.LogEntry.{LogEntry as AnyLogEntry};
-ghost use Rattle.smil_instance_rows.specs.declared.cell.Add.{Add as AnyAdd};
 ghost use Rattle.smil_instance_rows.specs.Changes.{Fits};
 ghost use Rattle.smil_instance_rows.specs.Notes.{EachGoes, HasNoted};
 ghost use Rattle.smil_instances.specs.Entry.{HasDependents};
-ghost use Rattle.smil_instances.specs.Intake.{history_of, AreRowsOf, AreToItems, HasItem, HaveItems};
+ghost use Rattle.smil_instances.specs.Intake.{history_of, AreRowsOf, HasItem, HaveItems};
 ghost use Rattle.smil_instances.specs.Noted.{AreNoted, IsNoted, KeepAll, KeepsAll};
 
 use super::arrival::Arrival;
@@ -56,32 +55,6 @@ pub(crate) fn note_each(
     let mut loses = false;
     for cell in cells {
         loses |= note_at(rows, *cell, arrival, notes)?;
-    }
-    Ok(loses)
-}
-
-/// Notes the rows of those of the items that got something from which something is to be taken out,
-/// unless memory runs out; whether something may be.
-pub(crate) fn note_added(
-    rows: &Rows,
-    adds: &[Add],
-    arrival: &Arrival<'_>,
-    notes: &mut RowNotes,
-) -> Result<bool, AllocError>
-    requires items { AreToItems arrival.now.history.tree.now.nodes adds.now }
-    requires dependents { HasDependents arrival.now }
-    requires rows { AreRowsOf arrival.now.history.tree.now.nodes rows.now }
-    ensures more { HasNoted rows.now notes.old notes.new }
-    ensures each { OnOk result ((log : List AnyLogEntry) → AreNoted
-        (history_of arrival.now.history.tree.now log arrival.now.history.book.now) rows.now
-        notes.new.notes (map (λ (a : AnyAdd). a.cell) adds.now)) }
-    ensures kept { IfOk result (λ loses. loses ≡ false → (log : List AnyLogEntry) → KeepAll
-        (history_of arrival.now.history.tree.now log arrival.now.history.book.now) rows.now
-        (map (λ (a : AnyAdd). a.cell) adds.now)) }
-{
-    let mut loses = false;
-    for add in adds {
-        loses |= note_at(rows, add.cell, arrival, notes)?;
     }
     Ok(loses)
 }

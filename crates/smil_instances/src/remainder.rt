@@ -8,7 +8,7 @@ ghost use Rattle.smil_instances.specs.Sources.{base_of};
 ghost use Rattle.smil_instance_rows.specs.Changes.{cell_of, with_cell, HasCell};
 ghost use Rattle.smil_instances.specs.Updates.{remaining};
 ghost use Rattle.smil_instances.specs.Entry.{HasDependents};
-ghost use Rattle.smil_instances.specs.Intake.{history_of, HasItem, HaveItems, IsCellOf, with_remainder, with_remainders, with_trims, AreRowsOf, AreToItems};
+ghost use Rattle.smil_instances.specs.Intake.{history_of, HasItem, HaveItems, IsCellOf, with_remainder, with_remainders, AreRowsOf};
 ghost use Rattle.smil_instances.specs.Noted.{kept_by};
 ghost use Rattle.smil_instance_rows.specs.declared.item_times.InstanceTime.{InstanceTime as AnyTime};
 
@@ -17,7 +17,7 @@ use super::items::CellItem;
 use super::laws::bases_are_elements;
 use super::source::Source;
 use smil_diary::Book;
-use smil_instance_rows::{Add, Cell, Rows};
+use smil_instance_rows::{Cell, Rows};
 use smil_tree::Tree;
 
 /// What is kept of the instance times of an item.
@@ -42,21 +42,6 @@ pub(crate) fn trim_each(rows: &mut Rows, cells: &[Cell], arrival: &Arrival<'_>)
 {
     for cell in cells {
         trim_at(rows, *cell, arrival);
-    }
-}
-
-/// Takes out of each of the items that got something what is no longer kept, by the births in the
-/// book. It takes no memory.
-pub(crate) fn trim_added(rows: &mut Rows, adds: &[Add], arrival: &Arrival<'_>)
-    requires items { AreToItems arrival.now.history.tree.now.nodes adds.now }
-    requires dependents { HasDependents arrival.now }
-    requires rows { AreRowsOf arrival.now.history.tree.now.nodes rows.old }
-    ensures { (log : List AnyLogEntry) → rows.new ≡ with_trims
-        (history_of arrival.now.history.tree.now log arrival.now.history.book.now) rows.old
-        adds.now }
-{
-    for add in adds {
-        trim_at(rows, add.cell, arrival);
     }
 }
 

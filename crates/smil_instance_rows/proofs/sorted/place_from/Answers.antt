@@ -13,5 +13,5 @@ returns g c =
     place_found le order xs v c.partition_point.result c.partition_point.ensures.bound
     (IsPartitionPoint-from_clause (λ x. not (le v x)) xs _ c.partition_point.ensures.partitioned (parted_from le order v xs c.requires) (λ a r q k. search (rules, tests)))
 
-pub returns-then-is_after_last : goal.returns-then-is_after_last
-returns-then-is_after_last g c = c.is_after_last.ensures c.if-is_after_last.true
+pub returns-then-goes_last : goal.returns-then-goes_last
+returns-then-goes_last g c = c.goes_last.ensures c.if-goes_last.true

@@ -40,3 +40,6 @@ returns-in-Err-clause-back c =
     subst (λ (rs : List ElementTimes). GoesBackTheSame rows c.args.notes.now rs c.note_losses.new.notes) (sym undone)
     (undone_back rows adds c.args.notes.now c.note_adds.new.notes c.note_losses.new.notes c.note_adds.ensures.more c.in_ok-note_adds.ensures.each
     (subst (λ (rs : List ElementTimes). HasNoted rs c.note_adds.new.notes c.note_losses.new.notes) made c.note_losses.ensures.more))
+
+pub returns-in-Ok-clause-noted : goal.returns-in-Ok-clause-noted
+returns-in-Ok-clause-noted c = λ log place is. c.in-Ok.ensures.noted log place (c.note_adds.ensures.more.same.mark ∙ is)

@@ -8,4 +8,4 @@ returns-in_ok-shared c =
     let shared = c.in_ok-shared.shared.value in
     let same : c.args.self.now.dependents ≡ shared = search rules in
     dependents_alike c.args.before.now.nodes c.args.after.now.nodes (c.are_alike.ensures.0 c.if-are_alike.true) shared
-    (subst (λ d. AreDependentsOf c.args.before.now.nodes d) same c.requires)
+    (subst (λ d. AreDependentsOf c.args.before.now.nodes d) same c.requires.dependents)

@@ -2,7 +2,7 @@ use Rattle.std.proofs.Common.{◌∙◌, sym, ap}
 use Rattle.std.specs.Prelude.{option_copied}
 use Rattle.std.proofs.lemmas.Bool.{not-true}
 use Rattle.smil_instance_rows.proofs.LastValues.{place_at_end}
-use Rattle.smil_instance_rows.proofs.sorted.is_after_last.Goals as goal
+use Rattle.smil_instance_rows.proofs.sorted.goes_last.Goals as goal
 
 pub returns-in-Some : goal.returns-in-Some
 returns-in-Some g c = λ greater.

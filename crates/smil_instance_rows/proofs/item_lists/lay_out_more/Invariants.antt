@@ -1,6 +1,6 @@
 use Rattle.std.proofs.Common.{◌≡◌, ◌+◌, ◌-◌, length}
 use Rattle.smil_instance_rows.specs.Values.{with_idle}
-use Rattle.smil_instance_rows.proofs.item_lists.lay_out.Given as goal
+use Rattle.smil_instance_rows.proofs.item_lists.lay_out_more.Given as goal
 
 -- all items are as before
 abbrev pub invariant-loop-items : goal.invariant-loop-items

@@ -1,7 +1,7 @@
 use Rattle.std.proofs.Common.{◌≡◌, ◌∙◌, [], ◌∷◌, ◌++◌, ◌-◌, ap, suc, length, arith}
 use Rattle.smil_instance_rows.specs.Values.{with_idle}
 use Rattle.smil_instance_rows.proofs.IdleItems.{laid_out, long_idle}
-use Rattle.smil_instance_rows.proofs.item_lists.lay_out.Goals as goal
+use Rattle.smil_instance_rows.proofs.item_lists.lay_out_more.Goals as goal
 
 pub loop-items-preserved : goal.loop-items-preserved
 loop-items-preserved c =
