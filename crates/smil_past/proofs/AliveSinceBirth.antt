@@ -1,18 +1,20 @@
 -- The entries since birth, and whether an element is alive, after one entry more.
 use Rattle.std.proofs.Common.{◌≡◌, refl, sym, ◌∙◌, ap, ℕ, suc, ◌≤◌, List, [], ◌∷◌, ◌++◌, length, drop, Option, Some, None, Bool, true, false, arith, length-append}
-use Rattle.std.specs.Prelude.{◌==◌, ◌||◌, fold}
+use Rattle.std.specs.Prelude.{cond, ℤ, not, ◌==◌, ◌||◌, ◌&&◌, fold}
 use Rattle.std.specs.Option.{option_map_or}
-use Rattle.std.proofs.lemmas.Bool.{cond_both}
+use Rattle.std.proofs.lemmas.Bool.{and_parts, cond_both, eqb-true}
 use Rattle.std.proofs.lemmas.List.{drop-append-le, drop_all}
 use Rattle.std.proofs.lemmas.List.Sums.{fold_push}
 use Rattle.smil_model.specs.declared.diary.Entry.{Entry}
 use Rattle.smil_model.specs.declared.diary.Step.{Step}
-use Rattle.smil_model.specs.declared.diary.Step.TheVariants.{Began, Ended, Cut}
+use Rattle.smil_model.specs.declared.diary.Step.TheVariants.{Began, Ended, Cut, Deferred, Passed}
 use Rattle.smil_model.specs.declared.document.Node.{Node}
 use Rattle.smil_model.specs.document.Document.{time_parent}
-use Rattle.smil_model.specs.diary.Diary.{History, last_place, later_place, gives_birth, birth_under, since_birth, active_after, lives_under, with_entry}
-use Rattle.smil_model.specs.diary.Plays.{is_birth_under}
+use Rattle.smil_model.specs.diary.Diary.{History, last_place, later_place, gives_birth, birth_under, since_birth, active_after, deferral_after, is_active, is_alive, lives_under, with_entry}
+use Rattle.smil_model.specs.diary.Lawful.{has_element, is_lawful_step, may_begin}
+use Rattle.smil_model.specs.diary.Plays.{is_birth_under, passed_after}
 use Rattle.smil_laws.proofs.ForeignEntries.{last_place-push, last_place-below}
+use Rattle.smil_diary.proofs.TestChoices.{same_choice}
 use Rattle.smil_instances.proofs.ResetPlaces.{last_place-hit}
 
 -- an active element began
@@ -62,3 +64,36 @@ module _ (h : History) (y : Entry) (s : ℕ) where
           ap (λ k. fold f b (drop (option_map_or suc k (length (h.diary ++ y ∷ []))) (h.diary ++ y ∷ []))) (last_place-push (λ (z : Entry). gives_birth p.serial z.step) h.diary y r)
           ∙ at (last_place (λ (z : Entry). gives_birth p.serial z.step) h.diary) (last_place-below (λ (z : Entry). gives_birth p.serial z.step) h.diary)
           (λ e. none (began_once p.serial false h.diary e refl))
+
+  -- ---- an element that is not alive is neither passed over nor deferred
+
+  pub own_alive : (who : ℕ) → (has_element h.nodes who && may_begin h who) ≡ true → who == s ≡ true → is_alive h s ≡ true
+  own_alive who q is =
+      let parts = and_parts (has_element h.nodes who) (may_begin h who) q in
+      ap (is_alive h) (sym (eqb-true who s is)) ∙ (and_parts (is_alive h who) (not (is_active h.diary who)) parts.1).0
+
+  pub passed_dead : is_lawful_step h y.step ≡ true → is_alive h s ≡ false → passed_after s None y.step ≡ None
+  passed_dead lawful dead = by_step y.step lawful
+    where
+      by_own : (who : ℕ) (v : ℤ) (t : Bool) → who == s ≡ t → (who == s ≡ true → is_alive h s ≡ true) → cond t (Some v) None ≡ None
+      by_own who v true e own = let never : true ≡ false = sym (own e) ∙ dead in cc
+      by_own who v false e own = refl
+
+      by_step : (step : Step) → is_lawful_step h step ≡ true → passed_after s None step ≡ None
+      by_step (Passed who begin) q = by_own who begin (who == s) refl (own_alive who q)
+      by_step _ q = refl
+
+  pub deferred_dead : is_lawful_step h y.step ≡ true → is_alive h s ≡ false → deferral_after s y None y.step ≡ None
+  deferred_dead lawful dead = by_step y.step lawful
+    where
+      by_own : (who : ℕ) (t : Bool) → who == s ≡ t → (who == s ≡ true → is_alive h s ≡ true) → cond t (Some y) None ≡ None
+      by_own who true e own = let never : true ≡ false = sym (own e) ∙ dead in cc
+      by_own who false e own = refl
+
+      by_step : (step : Step) → is_lawful_step h step ≡ true → deferral_after s y None step ≡ None
+      by_step (Deferred who begin) q = by_own who (who == s) refl (own_alive who q)
+      by_step (Began who begin) q = same_choice (who == s) None
+      by_step (Ended who end') q = same_choice (who == s) None
+      by_step (Cut who) q = same_choice (who == s) None
+      by_step (Passed who begin) q = same_choice (who == s) None
+      by_step _ q = refl

@@ -31,7 +31,7 @@ use Rattle.smil_past.specs.Played.{past_interval, played}
 use Rattle.smil_past.specs.Followed.{is_death_under, begun_after, shown_begun_after, finished_after, finished_interval, has_begun_after, interval_finished_by, number_after, shown_deferred_after, told_by, told_after, none_if, row_after, zero_if}
 use Rattle.smil_past.proofs.Counted.{begun_step as begun_counted, count_few, count_step, number, number_few, number_step, paused_is}
 use Rattle.smil_past.proofs.ClocksAtEntry.{document_with, start_with, each_until, each_drop, fold_with}
-use Rattle.smil_past.proofs.AliveSinceBirth.{since_hit, since_miss}
+use Rattle.smil_past.proofs.AliveSinceBirth.{deferred_dead, own_alive, passed_dead, since_hit, since_miss}
 use Rattle.smil_past.proofs.PlaysAfterEntry.{plays_with, present_then, finished_then, active_is, plays_until, IsMarked, IsUntil, AreUntil, mark_with, past_with, first_with, last_with, last_more}
 
 abbrev value_of : PlayEdge → ℤ
@@ -217,22 +217,6 @@ module _ (h : History) (y : Entry) (s : ℕ) (lawful : IsLawful (with_entry h y)
 
   -- ---- what was passed over or deferred since birth
 
-  own_alive : (who : ℕ) → (has_element h.nodes who && may_begin h who) ≡ true → who == s ≡ true → is_alive h s ≡ true
-  own_alive who q is =
-      let parts = and_parts (has_element h.nodes who) (may_begin h who) q in
-      ap (is_alive h) (sym (eqb-true who s is)) ∙ (and_parts (is_alive h who) (not (is_active h.diary who)) parts.1).0
-
-  passed_dead : is_alive h s ≡ false → passed_after s None y.step ≡ None
-  passed_dead dead = by_step y.step (lawful_last h y lawful)
-    where
-      by_own : (who : ℕ) (v : ℤ) (t : Bool) → who == s ≡ t → (who == s ≡ true → is_alive h s ≡ true) → cond t (Some v) None ≡ None
-      by_own who v true e own = let never : true ≡ false = sym (own e) ∙ dead in cc
-      by_own who v false e own = refl
-
-      by_step : (step : Step) → is_lawful_step h step ≡ true → passed_after s None step ≡ None
-      by_step (Passed who begin) q = by_own who begin (who == s) refl (own_alive who q)
-      by_step _ q = refl
-
   abbrev pass : Option ℤ → Entry → Option ℤ
   pass before x = passed_after s before x.step
 
@@ -241,25 +225,13 @@ module _ (h : History) (y : Entry) (s : ℕ) (lawful : IsLawful (with_entry h y)
     where
       by_birth : (t : Bool) → birth_now ≡ t → passed (with_entry h y) s ≡ none_if t (passed_after s (passed h s) y.step)
       by_birth true q = ap (fold pass None) (since_hit h y s q)
-      by_birth false q = since_miss h y s pass None q passed_dead
+      by_birth false q = since_miss h y s pass None q (passed_dead h y s (lawful_last h y lawful))
 
   abbrev defer : Option Entry → Entry → Option Entry
   defer before x = deferral_after s x before x.step
 
-  deferred_dead : is_alive h s ≡ false → defer None y ≡ None
-  deferred_dead dead = by_step y.step (lawful_last h y lawful)
-    where
-      by_own : (who : ℕ) (t : Bool) → who == s ≡ t → (who == s ≡ true → is_alive h s ≡ true) → cond t (Some y) None ≡ None
-      by_own who true e own = let never : true ≡ false = sym (own e) ∙ dead in cc
-      by_own who false e own = refl
-
-      by_step : (step : Step) → is_lawful_step h step ≡ true → deferral_after s y None step ≡ None
-      by_step (Deferred who begin) q = by_own who (who == s) refl (own_alive who q)
-      by_step (Began who begin) q = same_choice (who == s) None
-      by_step (Ended who end') q = same_choice (who == s) None
-      by_step (Cut who) q = same_choice (who == s) None
-      by_step (Passed who begin) q = same_choice (who == s) None
-      by_step _ q = refl
+  dead_defers : is_alive h s ≡ false → defer None y ≡ None
+  dead_defers = deferred_dead h y s (lawful_last h y lawful)
 
   -- the entry that put it off is not later than this one
   abbrev IsHeld : Option Entry → Type 0
@@ -358,13 +330,13 @@ module _ (h : History) (y : Entry) (s : ℕ) (lawful : IsLawful (with_entry h y)
     where
       on : (t : Bool) → is_alive h s ≡ t → put_off (with_entry h y) (cond t (defer held y) None) ≡ shown_deferred_after h s y.moment (put_off h (cond t held None)) y.step
       on true e = put_off_step held is_held
-      on false e = sym (ap (put_off (with_entry h y)) (deferred_dead e)) ∙ put_off_step None tt
+      on false e = sym (ap (put_off (with_entry h y)) (dead_defers e)) ∙ put_off_step None tt
 
       by_death : birth_now ≡ false → (t : Bool) → death_now ≡ t → put_off (with_entry h y) (deferral (with_entry h y) s) ≡ none_if t (shown_deferred_after h s y.moment (put_off h (deferral h s)) y.step)
       by_death q true r = ap (λ a. put_off (with_entry h y) (cond a (fold defer None (since_birth (with_entry h y) s)) None)) (dies r)
       by_death q false r =
           ap (λ a. put_off (with_entry h y) (cond a (fold defer None (since_birth (with_entry h y) s)) None)) (lives_on q r)
-          ∙ ap (λ o. put_off (with_entry h y) (cond (is_alive h s) o None)) (since_miss h y s defer None q deferred_dead)
+          ∙ ap (λ o. put_off (with_entry h y) (cond (is_alive h s) o None)) (since_miss h y s defer None q dead_defers)
           ∙ on (is_alive h s) refl
 
       by_birth : (t : Bool) → birth_now ≡ t → put_off (with_entry h y) (deferral (with_entry h y) s) ≡ none_if (t || death_now) (shown_deferred_after h s y.moment (put_off h (deferral h s)) y.step)
@@ -389,7 +361,7 @@ module _ (h : History) (y : Entry) (s : ℕ) (lawful : IsLawful (with_entry h y)
       by_own who false e own = refl
 
       by_step : (step : Step) → is_lawful_step h step ≡ true → iteration_after s None step ≡ None
-      by_step (Began who begin) q = by_own who (who == s) refl (own_alive who q)
+      by_step (Began who begin) q = by_own who (who == s) refl (own_alive h y s who q)
       by_step (Repeated who start) q = same_choice (who == s) None
       by_step _ q = refl
 

@@ -15,7 +15,7 @@ use Rattle.smil_past.specs.declared.makeup.Makeup.{Makeup}
 use Rattle.smil_past.specs.declared.makeup.ParentIndex.{ParentIndex}
 use Rattle.smil_model.specs.document.Edits.{place_in}
 use Rattle.smil_model.specs.document.Valid.{kind_of}
-use Rattle.smil_past.specs.Makeups.{makeup_of, parent_index, stated_simple}
+use Rattle.smil_past.specs.Makeups.{keeps_children, makeup_of, parent_index, stated_simple}
 
 pub restart_is : (nodes : List Node) (s : ℕ) (e : Node) (r : Restart) → node_at nodes s ≡ Some e → Some r ≡ option_map (restart_of nodes) (node_at nodes s) → r ≡ restart_of nodes e
 restart_is nodes s e r at is =
@@ -32,9 +32,9 @@ kind_is nodes s e k at is =
     let same : Some k ≡ Some e.kind = is ∙ ap kind_of at in
     cc
 
-pub makeup_is : (nodes : List Node) (e : Node) (simple : Option Time) (bounds : Bounds) (list : EndList) (restart : Restart) (fill : Fill) (kind : Kind) (node : ℕ) (parent : Option ParentIndex) → simple ≡ stated_simple e.attrs → bounds ≡ bounds_of e.attrs → list ≡ end_list_of e.attrs.«end» → restart ≡ restart_of nodes e → fill ≡ effective_fill nodes e → kind ≡ e.kind → node ≡ place_in nodes e.serial → parent ≡ parent_index nodes e.serial → ◌≡◌ {A = Makeup} (record { simple = simple; bounds = bounds; end_list = list; restart = restart; fill = fill; kind = kind; node = node; parent = parent }) (makeup_of nodes e)
-makeup_is nodes e simple bounds list restart fill kind node parent p1 p2 p3 p4 p5 p6 p7 p8 =
-    λ i. record { simple = p1 i; bounds = p2 i; end_list = p3 i; restart = p4 i; fill = p5 i; kind = p6 i; node = p7 i; parent = p8 i }
+pub makeup_is : (nodes : List Node) (e : Node) (simple : Option Time) (bounds : Bounds) (list : EndList) (restart : Restart) (fill : Fill) (keeps : Bool) (kind : Kind) (node : ℕ) (parent : Option ParentIndex) → simple ≡ stated_simple e.attrs → bounds ≡ bounds_of e.attrs → list ≡ end_list_of e.attrs.«end» → restart ≡ restart_of nodes e → fill ≡ effective_fill nodes e → keeps ≡ keeps_children nodes e → kind ≡ e.kind → node ≡ place_in nodes e.serial → parent ≡ parent_index nodes e.serial → ◌≡◌ {A = Makeup} (record { simple = simple; bounds = bounds; end_list = list; restart = restart; fill = fill; keeps_children = keeps; kind = kind; node = node; parent = parent }) (makeup_of nodes e)
+makeup_is nodes e simple bounds list restart fill keeps kind node parent p1 p2 p3 p4 p5 p6 p7 p8 p9 =
+    λ i. record { simple = p1 i; bounds = p2 i; end_list = p3 i; restart = p4 i; fill = p5 i; keeps_children = p6 i; kind = p7 i; node = p8 i; parent = p9 i }
 
 -- ---- the simple duration, where the attributes tell it and where they don't
 

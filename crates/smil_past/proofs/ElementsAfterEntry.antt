@@ -27,7 +27,7 @@ abbrev find_node : History → ℕ → Option Node
 find_node h s = find_in h.nodes s
 
 -- what is kept of an element of the document
-row_known : (h : History) (s : ℕ) → is_some (find_node h s) ≡ true → row_of (all_played h) s ≡ Some (played h s)
+pub row_known : (h : History) (s : ℕ) → is_some (find_node h s) ≡ true → row_of (all_played h) s ≡ Some (played h s)
 row_known h s q = row_map (played h) (elements h.nodes) s ∙ ap (λ t. cond t (Some (played h s)) None) (sym (found_any s (elements h.nodes)) ∙ q)
 
 pub row_is : (h : History) (s : ℕ) → row_of (all_played h) s ≡ option_map (λ (e : Node). played h e.serial) (node_at (elements h.nodes) s)

@@ -22,7 +22,7 @@ use Rattle.smil_past.proofs.PlaysAfterEntry.{active_is}
 
 -- ---- what is active is an element
 
-follow : (h : History) (before xs : List Entry) → AllLawful h (with_past before xs) → Follow h.nodes h.log before xs
+pub follow : (h : History) (before xs : List Entry) → AllLawful h (with_past before xs) → Follow h.nodes h.log before xs
 follow h before [] all = tt
 follow h before (x ∷ xs) all = (all.0, follow h (before ++ x ∷ []) xs all.1)
 

@@ -14,7 +14,9 @@ pub mod IdleRows
 pub mod NodeClasses
 pub mod KnownNodes
 pub mod QueuePut
+pub mod QueuedElements
 pub mod QueuesAfterStep
+pub mod ReadingsBefore
 pub mod SyncsExpected
 pub mod ItemReferences
 pub mod DiaryAppended
@@ -24,6 +26,7 @@ pub mod Catching
 pub mod ReferenceLent
 pub mod KeptActivity
 pub mod ElementMakeup
+pub mod KeptChildren
 pub mod ElementPlaces
 pub mod TimeParents
 pub mod PlayingChildren

@@ -7,18 +7,19 @@ use Rattle.std.proofs.lemmas.Bool.{ltb-true, ltb-false, lt-ltb, le-ltb, eq-eqb}
 use Rattle.std.proofs.lemmas.List.{length-map}
 use Rattle.std.proofs.lemmas.Option.{slice_get-map, get_or_from_slice_get, same_Some}
 use Rattle.smil_model.specs.declared.document.Node.{Node}
-use Rattle.smil_model.specs.document.Document.{has_serial, time_parent}
+use Rattle.smil_model.specs.document.Document.{has_serial, time_children, time_parent}
 use Rattle.smil_model.specs.document.Valid.{IsDistinct}
-use Rattle.smil_model.specs.happening.Queue.{is_child_of, rank}
+use Rattle.smil_model.specs.happening.Queue.{is_child_of, rank, without}
 use Rattle.smil_laws.proofs.LineageParents.{swap_eqb}
 use Rattle.smil_laws.proofs.AsideDocuments.{map_all}
 use Rattle.smil_laws.proofs.ListMembers.{differ_each}
 use Rattle.smil_laws.proofs.Lists.{each_at}
 use Rattle.smil_excl.specs.declared.queued_child.QueuedChild.{QueuedChild}
 use Rattle.smil_excl.specs.QueueState.{QueueState, line_in, ranked}
+use Rattle.smil_excl.proofs.QueuePlaces.{without_is_without}
 use Rattle.smil_tree.specs.Outline.{parent_place}
 use Rattle.smil_stretch.proofs.NodePlaces.{place, IsFound, found_at}
-use Rattle.smil_past.specs.Queues.{HasRoom, lines}
+use Rattle.smil_past.specs.Queues.{AreWithout, HasRoom, lines, without_child}
 
 -- another value at the place of one node
 pub changed_there : (f g : Node → QueueState) (ns : List Node) (k : ℕ) (n : Node) → IsDistinct ns → slice_get ns k ≡ Some n → ((m : Node) → n.serial == m.serial ≡ false → f m ≡ g m) → set (map f ns) k (g n) ≡ map g ns
@@ -80,6 +81,29 @@ module _ (nodes : List Node) (queue after : ℕ → List ℕ) where
       ap (λ ls. set ls k now) is
       ∙ ap (λ l. set (lines nodes queue) k l) (value ∙ ap (λ x. line after x) (sym found.serial))
       ∙ changed_there (λ (m : Node). line queue m.serial) (λ (m : Node). line after m.serial) nodes k found.node d found.at (λ (m : Node) r. ap (line_in nodes m.serial) (same m.serial (ap (λ x. x == m.serial) (sym found.serial) ∙ r)))
+
+-- the queues without an element that is in none of them
+pub lines_without : (nodes : List Node) (who : ℕ) (queue : ℕ → List ℕ) → ((e : ℕ) → without who (queue e) ≡ queue e) → AreWithout who (lines nodes queue)
+lines_without nodes who queue same = over nodes
+  where
+    over : (ns : List Node) → AreWithout who (map (λ (n : Node). line_in nodes n.serial (queue n.serial)) ns)
+    over [] = tt
+    over (n ∷ ns) = (without_is_without nodes who (queue n.serial) ∙ ap (map (ranked nodes)) (same n.serial), over ns)
+
+-- so they are those that it has left
+pub none_left : (nodes : List Node) (who : ℕ) (queue : ℕ → List ℕ) (kept : List QueueState) → kept ≡ lines nodes queue → AreWithout who kept → lines nodes queue ≡ lines nodes (without_child nodes who queue)
+none_left nodes who queue kept is out = over nodes (subst (AreWithout who) is out)
+  where
+    left : (t : Bool) (held : List ℕ) → map (ranked nodes) (without who held) ≡ map (ranked nodes) held → map (ranked nodes) held ≡ map (ranked nodes) (cond t (without who held) held)
+    left true held same = sym same
+    left false held same = refl
+
+    over : (ns : List Node) → AreWithout who (map (λ (n : Node). line_in nodes n.serial (queue n.serial)) ns) → map (λ (n : Node). line_in nodes n.serial (queue n.serial)) ns ≡ map (λ (n : Node). line_in nodes n.serial (without_child nodes who queue n.serial)) ns
+    over [] each = refl
+    over (n ∷ ns) each =
+        ap (λ held. record { held = held; room = length (time_children nodes n.serial) } ∷ map (λ (m : Node). line_in nodes m.serial (queue m.serial)) ns)
+        (left (is_child_of nodes n.serial who) (queue n.serial) (sym (without_is_without nodes who (queue n.serial)) ∙ each.0))
+        ∙ ap (λ ls. line_in nodes n.serial (without_child nodes who queue n.serial) ∷ ls) (over ns each.1)
 
 -- the queue of a node
 pub line_there : (nodes : List Node) (queue : ℕ → List ℕ) (kept : List QueueState) (k s : ℕ) (d : QueueState) → kept ≡ lines nodes queue → Some k ≡ position (λ (n : Node). n.serial == s) nodes → get_or kept k d ≡ line_in nodes s (queue s)

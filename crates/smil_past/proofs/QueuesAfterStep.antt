@@ -1,12 +1,12 @@
 -- What a lawful step makes of the queues.
 use Rattle.std.proofs.Common.{◌≡◌, refl, sym, ◌∙◌, ap, subst, ℕ, ℤ, ◌<◌, List, [], Bool, true, false, length, inl, inr}
 use Rattle.std.specs.Prelude.{cond, ◌==◌, ◌⊎◌, ◌&&◌, not, is_some}
-use Rattle.std.proofs.lemmas.Bool.{and_parts}
+use Rattle.std.proofs.lemmas.Bool.{and_parts, not-true}
 use Rattle.std.proofs.lemmas.List.{length-map}
 use Rattle.std.proofs.lemmas.List.Sums.{fold_push}
 use Rattle.smil_model.specs.declared.diary.Entry.{Entry}
 use Rattle.smil_model.specs.declared.diary.Step.{Step}
-use Rattle.smil_model.specs.declared.diary.Step.TheVariants.{Began, Ended, Cut, Paused, Resumed, Deferred, Passed, Logged}
+use Rattle.smil_model.specs.declared.diary.Step.TheVariants.{Began, Repeated, Ended, Cut, Paused, Resumed, Deferred, Passed, Logged}
 use Rattle.smil_model.specs.declared.document.Node.{Node}
 use Rattle.smil_model.specs.document.Document.{node_at, time_children}
 use Rattle.smil_model.specs.diary.Diary.{History, is_active, is_paused}
@@ -15,22 +15,26 @@ use Rattle.smil_model.specs.happening.Queue.{is_child_of, put_paused, put_deferr
 use Rattle.smil_excl.specs.QueueState.{QueueState}
 use Rattle.smil_excl.proofs.QueueMembers.{left_is, has_room}
 use Rattle.smil_model.specs.diary.Diary.{with_entry}
-use Rattle.smil_past.specs.Queues.{HasRoom, MayTakeIn, with_deferred, without_children, without_child, lines, with_paused, queues_after}
+use Rattle.smil_past.specs.Queues.{AreWithout, HasRoom, IsInNoQueue, MayTakeIn, WaitsNowhere, with_deferred, without_children, without_child, lines, with_paused, queues_after}
 use Rattle.smil_past.proofs.KnownNodes.{known_node}
-use Rattle.smil_past.proofs.QueuePut.{lines_same}
+use Rattle.smil_past.proofs.QueuedElements.{playing_outside}
+use Rattle.smil_past.proofs.QueuePut.{lines_same, lines_without}
 
 pub lines_long : (nodes : List Node) (queue : ℕ → List ℕ) (kept : List QueueState) → kept ≡ lines nodes queue → length kept ≡ length nodes
 lines_long nodes queue kept is = ap length is ∙ length-map nodes _
 
 -- ---- the element of a step
 
+abbrev pub EndsPlay : ℕ → Step → Type 0
+EndsPlay who step = ((x : ℤ) × (step ≡ Ended who x)) ⊎ (step ≡ Cut who)
+
 abbrev pub Leaves : ℕ → Step → Type 0
-Leaves who step = (step ≡ Resumed who) ⊎ (((x : ℤ) × (step ≡ Ended who x)) ⊎ (step ≡ Cut who))
+Leaves who step = (step ≡ Resumed who) ⊎ EndsPlay who step
 
 abbrev pub Stays : Step → Type 0
 Stays step = ((who : ℕ) × (begin : ℤ) × (step ≡ Passed who begin)) ⊎ ((place : ℕ) × (step ≡ Logged place))
 
-module _ (kept : List QueueState) (nodes : List Node) (step : Step) (h : History) (may : MayTakeIn kept nodes step h) where
+module _ (kept : List QueueState) (nodes : List Node) (step : Step) (waits : Bool) (h : History) (may : MayTakeIn kept nodes step waits h) where
   lawful_as : (other : Step) → step ≡ other → is_lawful_step h other ≡ true
   lawful_as other is = ap (is_lawful_step h) (sym is) ∙ may.step_lawful
 
@@ -70,8 +74,19 @@ module _ (kept : List QueueState) (nodes : List Node) (step : Step) (h : History
       subst (λ q. length q < length (time_children nodes e)) (sym (all_left who e))
       (subst (λ (ns : List Node). is_child_of ns e who ≡ true → length (without who (queue_of h e)) < length (time_children ns e)) may.same_nodes (has_room h e who may.lawful known) child)
 
-  pub paused_room : (who : ℕ) (now : List QueueState) → step ≡ Paused who → now ≡ lines nodes (without_child nodes who (queue_of h)) → HasRoom now nodes who
-  paused_room who now is value = record { queue = without_child nodes who (queue_of h); value = value; room = room_for who (paused_element who is) }
+  -- who plays is in no queue
+  paused_outside : (who : ℕ) → step ≡ Paused who → IsInNoQueue h who
+  paused_outside who is =
+      let parts = and_parts (has_element h.nodes who) (is_active h.diary who && not (is_paused h.diary who)) (lawful_as (Paused who) is) in
+      let plays = and_parts (is_active h.diary who) (not (is_paused h.diary who)) parts.1 in
+      playing_outside h who may.lawful plays.0 (not-true (is_paused h.diary who) plays.1)
+
+  pub paused_room : (who : ℕ) → step ≡ Paused who → HasRoom kept nodes who
+  paused_room who is = record {
+    queue = queue_of h;
+    value = may.value;
+    room = λ e child. subst (λ q. length q < length (time_children nodes e)) (all_left who e ∙ paused_outside who is e) (room_for who (paused_element who is) e child);
+  }
 
   pub deferred_room : (who : ℕ) (begin : ℤ) (now : List QueueState) → step ≡ Deferred who begin → now ≡ lines nodes (without_child nodes who (queue_of h)) → HasRoom now nodes who
   deferred_room who begin now is value = record { queue = without_child nodes who (queue_of h); value = value; room = room_for who (deferred_element who begin is) }
@@ -92,12 +107,41 @@ module _ (kept : List QueueState) (nodes : List Node) (step : Step) (h : History
       by e true q = none (is_child_of nodes e who)
       by e false q = q
 
+  pub after_repeated : (who : ℕ) (start : ℤ) → step ≡ Repeated who start → lines nodes (without_children who (queue_of h)) ≡ lines nodes (queues_after nodes (queue_of h) step)
+  after_repeated who start is = after_as (Repeated who start) (without_children who (queue_of h)) is (λ e. refl)
+
+  -- an element that does not wait is in none of the queues
+  without_now : (who : ℕ) → IsInNoQueue h who → (queue : ℕ → List ℕ) (now : List QueueState) → now ≡ lines nodes queue → ((e : ℕ) → without who (queue_of h e) ≡ queue_of h e → without who (queue e) ≡ queue e) → AreWithout who now
+  without_now who nowhere queue now is each =
+      subst (AreWithout who) (sym is) (lines_without nodes who queue (λ e. each e (nowhere e)))
+
+  nowhere_as : (other : Step) → step ≡ other → waits ≡ false → WaitsNowhere h other
+  nowhere_as other is off = subst (WaitsNowhere h) is (may.stands off)
+
+  pub began_without : (who : ℕ) (begin : ℤ) (now : List QueueState) → step ≡ Began who begin → now ≡ lines nodes (without_children who (queue_of h)) → waits ≡ false → AreWithout who now
+  began_without who begin now is value off =
+      without_now who (nowhere_as (Began who begin) is off) (without_children who (queue_of h)) now value (λ e q. by e (who == e) q)
+    where
+      by : (e : ℕ) (t : Bool) → without who (queue_of h e) ≡ queue_of h e → without who (cond t [] (queue_of h e)) ≡ cond t [] (queue_of h e)
+      by e true q = refl
+      by e false q = q
+
+  pub deferred_without : (who : ℕ) (begin : ℤ) → step ≡ Deferred who begin → waits ≡ false → AreWithout who kept
+  deferred_without who begin is off =
+      without_now who (nowhere_as (Deferred who begin) is off) (queue_of h) kept may.value (λ e q. q)
+
+  pub ended_without : (who : ℕ) → EndsPlay who step → waits ≡ false → AreWithout who kept
+  ended_without who (inl w) off = without_now who (nowhere_as (Ended who w.0) w.1 off) (queue_of h) kept may.value (λ e q. q)
+  ended_without who (inr is) off = without_now who (nowhere_as (Cut who) is off) (queue_of h) kept may.value (λ e q. q)
+
   either : (t : Bool) (put : List ℕ → List ℕ) (gone queue : List ℕ) → cond t (put (cond t gone queue)) (cond t gone queue) ≡ cond t (put gone) queue
   either true put gone queue = refl
   either false put gone queue = refl
 
-  pub after_paused : (who : ℕ) → step ≡ Paused who → lines nodes (with_paused nodes who (without_child nodes who (queue_of h))) ≡ lines nodes (queues_after nodes (queue_of h) step)
-  after_paused who is = after_as (Paused who) (with_paused nodes who (without_child nodes who (queue_of h))) is (λ e. either (is_child_of nodes e who) (put_paused nodes who) (without who (queue_of h e)) (queue_of h e))
+  pub after_paused : (who : ℕ) → step ≡ Paused who → lines nodes (with_paused nodes who (queue_of h)) ≡ lines nodes (queues_after nodes (queue_of h) step)
+  after_paused who is =
+      after_as (Paused who) (with_paused nodes who (queue_of h)) is
+      (λ e. ap (λ q. cond (is_child_of nodes e who) (put_paused nodes who q) (queue_of h e)) (sym (paused_outside who is e)))
 
   pub after_deferred : (who : ℕ) (begin : ℤ) → step ≡ Deferred who begin → lines nodes (with_deferred nodes who (without_child nodes who (queue_of h))) ≡ lines nodes (queues_after nodes (queue_of h) step)
   after_deferred who begin is = after_as (Deferred who begin) (with_deferred nodes who (without_child nodes who (queue_of h))) is (λ e. either (is_child_of nodes e who) (put_deferred nodes who) (without who (queue_of h e)) (queue_of h e))

@@ -1,5 +1,5 @@
 -- What one entry more makes of what is kept of an element.
-use Rattle.std.specs.Prelude.{◌≡◌, ℕ, ◌+◌, ◌-◌, ◌^◌, ◌<◌, min, ℤ, List, length, Bool, true, false, not, ◌&&◌, ◌||◌, ◌==◌, if◌then◌else◌, Option, Some, None, unwrap_or}
+use Rattle.std.specs.Prelude.{◌≡◌, ℕ, ◌+◌, ◌-◌, ◌^◌, ◌<◌, min, ℤ, List, length, Bool, true, false, not, ◌&&◌, ◌||◌, ◌==◌, if◌then◌else◌, Option, Some, None, is_some, unwrap_or}
 use Rattle.std.specs.Option.{option_or}
 use Rattle.smil_model.specs.declared.times.Time.{Time}
 use Rattle.smil_model.specs.declared.times.Time.TheVariants.{Unresolved}
@@ -201,6 +201,14 @@ finished_row h s m finish was_cut r = record r {
 
 abbrev pub deferred_row : History → ℕ → ℤ → ℤ → PlayFacts → PlayFacts
 deferred_row h s m begin r = record r { shown_deferred = Some (to_document h s begin m) }
+
+-- whether an element with this row may be in a queue before a step that takes it out of there
+abbrev pub may_wait : PlayFacts → Step → Bool
+may_wait r (Began who begin) = is_some r.shown_deferred || is_some r.passed
+may_wait r (Deferred who begin) = is_some r.shown_deferred || is_some r.passed
+may_wait r (Ended who end') = r.paused
+may_wait r (Cut who) = r.paused
+may_wait r step = true
 
 -- ---- what is at hand
 

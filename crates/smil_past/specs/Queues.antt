@@ -1,11 +1,11 @@
 -- The queues of the elements of a document, and the classes of its nodes.
 use Rattle.std.specs.Prelude.{◌≡◌, ℕ, ◌<◌, List, [], map, filter, length, Bool, true, false, ◌||◌, ◌==◌, if◌then◌else◌, Option, Some, None}
-use Rattle.std.specs.List.{position, position_or_len}
+use Rattle.std.specs.List.{AllByRecursion, position, position_or_len}
 use Rattle.std.specs.Option.{option_and_then}
 use Rattle.smil_model.specs.declared.diary.Entry.{Entry}
 use Rattle.smil_model.specs.declared.diary.LogEntry.{LogEntry}
 use Rattle.smil_model.specs.declared.diary.Step.{Step}
-use Rattle.smil_model.specs.declared.diary.Step.TheVariants.{Began, Ended, Cut, Paused, Resumed}
+use Rattle.smil_model.specs.declared.diary.Step.TheVariants.{Began, Deferred, Ended, Cut, Paused, Resumed}
 use Rattle.smil_model.specs.declared.document.Node.{Node}
 use Rattle.smil_model.specs.declared.happening.Class.{Class}
 use Rattle.smil_model.specs.document.Document.{Document, is_excl_kind, serials, time_children, time_parent}
@@ -13,7 +13,7 @@ use Rattle.smil_model.specs.diary.Diary.{History}
 use Rattle.smil_model.specs.diary.Lawful.{IsLawful, has_element, is_lawful_step}
 use Rattle.smil_model.specs.happening.Queue.{queue_of, queue_after, class_facts, is_child_of, is_playing_by, without, put_paused, put_deferred}
 use Rattle.smil_excl.specs.declared.queued_child.QueuedChild.{QueuedChild}
-use Rattle.smil_excl.specs.QueueState.{QueueState, line_in}
+use Rattle.smil_excl.specs.QueueState.{QueueState, line_in, without as without_held}
 use Rattle.smil_model.specs.diary.Diary.{with_entry}
 
 -- the queues of all nodes, in document order; only those of excls are ever filled in a resolved
@@ -62,11 +62,29 @@ pub record AreQueuesOf (kept : KeptQueues) (document : Document) (h : History) :
   pub nodes : h.nodes ≡ document.nodes
   pub value : kept ≡ kept_queues h
 
--- a history of this document of which this is kept, and which the entry may follow
-pub record IsPastOf
-    (kept : KeptQueues) (document : Document) (entry : Entry) (h : History) : Type 0 where
+-- the element is in no queue
+abbrev pub IsInNoQueue : History → ℕ → Type 0
+IsInNoQueue h who = (excl : ℕ) → without who (queue_of h excl) ≡ queue_of h excl
+
+-- the element that a step takes out of a queue is in none
+abbrev pub WaitsNowhere : History → Step → Type 0
+WaitsNowhere h (Began who begin) = IsInNoQueue h who
+WaitsNowhere h (Deferred who begin) = IsInNoQueue h who
+WaitsNowhere h (Ended who end') = IsInNoQueue h who
+WaitsNowhere h (Cut who) = IsInNoQueue h who
+WaitsNowhere h step = Unit {0}
+
+-- it is in one only where it is said to wait
+abbrev pub MayStand : History → Step → Bool → Type 0
+MayStand h step waits = waits ≡ false → WaitsNowhere h step
+
+-- a history of this document of which this is kept, which the entry may follow, and in which its
+-- element may stand in a queue, or doesn't
+pub record IsPastOf (kept : KeptQueues) (document : Document) (entry : Entry) (waits : Bool)
+    (h : History) : Type 0 where
   pub known : AreQueuesOf kept document h
   pub lawful : IsLawful (with_entry h entry)
+  pub stands : MayStand h entry.step waits
 
 -- the history of a document to which nothing has happened yet
 abbrev pub unplayed : List Node → List LogEntry → History
@@ -102,6 +120,10 @@ abbrev pub with_deferred : List Node → ℕ → (ℕ → List ℕ) → ℕ → 
 with_deferred nodes who queue serial = if is_child_of nodes serial who then put_deferred nodes who
     (queue serial) else queue serial
 
+-- the queues without the element are the same
+abbrev pub AreWithout : ℕ → List QueueState → Type 0
+AreWithout who kept = AllByRecursion (λ (q : QueueState). without_held who q.held ≡ q.held) kept
+
 -- the queues of a document in which there is room for the element
 pub record HasRoom (kept : List QueueState) (nodes : List Node) (who : ℕ) : Type 0 where
   pub queue : ℕ → List ℕ
@@ -113,13 +135,15 @@ pub record HasRoom (kept : List QueueState) (nodes : List Node) (who : ℕ) : Ty
 abbrev pub queues_after : List Node → (ℕ → List ℕ) → Step → ℕ → List ℕ
 queues_after nodes queue step serial = queue_after nodes serial (queue serial) step
 
--- the queues of a lawful history of these nodes, in which this step is lawful
-pub record MayTakeIn
-    (kept : List QueueState) (nodes : List Node) (step : Step) (h : History) : Type 0 where
+-- the queues of a lawful history of these nodes, in which this step is lawful, and its element may
+-- stand in a queue, or doesn't
+pub record MayTakeIn (kept : List QueueState) (nodes : List Node) (step : Step) (waits : Bool)
+    (h : History) : Type 0 where
   pub same_nodes : h.nodes ≡ nodes
   pub value : kept ≡ lines nodes (queue_of h)
   pub lawful : IsLawful h
   pub step_lawful : is_lawful_step h step ≡ true
+  pub stands : MayStand h step waits
 
 -- ---- the children that play
 

@@ -1,13 +1,13 @@
 //! What evaluation reads of an element's attributes, and where the element stands.
 
-ghost use Rattle.std.specs.Prelude.{◌≡◌, Some, IsSome};
+ghost use Rattle.std.specs.Prelude.{◌≡◌, ◌||◌, Some, IsSome};
 ghost use Rattle.std.specs.List.{list_any};
 ghost use Rattle.smil_model.specs.declared.document.Node.{Node as AnyNode};
-ghost use Rattle.smil_model.specs.document.Document.{node_at};
+ghost use Rattle.smil_model.specs.document.Document.{is_excl_kind, is_seq_kind, node_at, time_children};
 ghost use Rattle.smil_model.specs.document.Edits.{place_in};
 ghost use Rattle.smil_model.specs.document.Defaults as defaults;
 ghost use Rattle.smil_model.specs.interval.Current as model;
-ghost use Rattle.smil_past.specs.Makeups.{makeup_of, parent_index, stated_simple};
+ghost use Rattle.smil_past.specs.Makeups.{freezes, is_freeze, keeps_children, makeup_of, parent_index, stated_simple};
 
 use smil_duration::{Bounds, simple, takes_implicit};
 use smil_model::{Attrs, EndList, Fill, Item, Items, Kind, Restart, Time};
@@ -24,20 +24,22 @@ pub struct ParentIndex {
 /// and its time parent stand.
 #[derive(Clone, Copy)]
 pub struct Makeup {
-    /// The simple duration; None where it is the implicit one.
-    pub simple: Option<Time>,
-    /// What limits a play.
-    pub bounds: Bounds,
-    pub end_list: EndList,
+    /// The time parent; None for the root.
+    pub parent: Option<ParentIndex>,
+    /// The element's place among the nodes in document order, from 0.
+    pub node: u32,
+    pub kind: Kind,
     /// The restart that holds: never `ByDefault`.
     pub restart: Restart,
     /// The fill that holds: never `auto`.
     pub fill: Fill,
-    pub kind: Kind,
-    /// The element's place among the nodes in document order, from 0.
-    pub node: u32,
-    /// The time parent; None for the root.
-    pub parent: Option<ParentIndex>,
+    pub end_list: EndList,
+    /// Whether it is a seq or an excl of whose time children one freezes when it ends.
+    pub keeps_children: bool,
+    /// The simple duration; None where it is the implicit one.
+    pub simple: Option<Time>,
+    /// What limits a play.
+    pub bounds: Bounds,
 }
 
 /// The makeup of an element. It takes no memory.
@@ -48,15 +50,61 @@ pub fn makeup_of(tree: &Tree, who: u32) -> Makeup
 {
     let attrs = tree.attrs(who);
     Makeup {
-        simple: stated_simple(attrs),
-        bounds: Bounds::of_attrs(attrs),
-        end_list: end_list(&attrs.end),
+        parent: parent_index(tree, who),
+        node: node_place(tree, who),
+        kind: tree.kind(who),
         restart: tree.restart_of(who),
         fill: fill_by(attrs, tree.fill_of(who)),
-        kind: tree.kind(who),
-        node: node_place(tree, who),
-        parent: parent_index(tree, who),
+        end_list: end_list(&attrs.end),
+        keeps_children: keeps_children(tree, who),
+        simple: stated_simple(attrs),
+        bounds: Bounds::of_attrs(attrs),
     }
+}
+
+// Whether a node is a seq or an excl of whose time children one freezes when it ends.
+fn keeps_children(tree: &Tree, who: u32) -> bool
+    requires { IsSome (node_at tree.now.nodes who) }
+    ensures { (e : AnyNode) → node_at tree.now.nodes who ≡ Some e
+        → result ≡ keeps_children tree.now.nodes e }
+{
+    plays_one(tree.kind(who)) && any_freezes(tree, who)
+}
+
+// Whether of the time children of a node of this kind one plays at a time.
+fn plays_one(kind: Kind) -> bool
+    ensures { result ≡ (is_seq_kind kind || is_excl_kind kind) }
+{
+    matches!(kind, Kind::Seq | Kind::Excl)
+}
+
+// Whether one of the time children of a node freezes when it ends.
+fn any_freezes(tree: &Tree, who: u32) -> bool
+    ensures { result ≡ list_any (freezes tree.now.nodes) (time_children tree.now.nodes who) }
+{
+    tree.valid();
+    for child in tree.time_children(who) {
+        if freezes(tree, *child) {
+            return true;
+        }
+    }
+    false
+}
+
+// Whether a node freezes when it ends.
+fn freezes(tree: &Tree, who: u32) -> bool
+    requires { IsSome (node_at tree.now.nodes who) }
+    ensures { (e : AnyNode) → node_at tree.now.nodes who ≡ Some e
+        → result ≡ freezes tree.now.nodes e }
+{
+    is_freeze(fill_by(tree.attrs(who), tree.fill_of(who)))
+}
+
+// Whether this fill keeps an element until it is displaced.
+fn is_freeze(fill: Fill) -> bool
+    ensures { result ≡ is_freeze fill }
+{
+    matches!(fill, Fill::Freeze)
 }
 
 // The place of a node among the nodes.

@@ -14,14 +14,17 @@ ghost use Rattle.smil_laws.specs.Near.{HasNear};
 ghost use Rattle.smil_past.specs.Played.{TakesIn, all_played, played, played_at};
 ghost use Rattle.smil_past.specs.Rows.{AreChildrenTaken, AreAfterParent, IsOwnTaken, IsAfterParent, idle_row, reset_row, row_of};
 ghost use Rattle.smil_instances.specs.Contribution.{AreClocksAt};
-ghost use Rattle.smil_past.specs.Followed.{IsEntryAfter, MayBeTaken};
+ghost use Rattle.smil_model.specs.reach.Reach.{subject_of};
+ghost use Rattle.smil_past.specs.Followed.{IsEntryAfter, MayBeTaken, may_wait};
+ghost use Rattle.smil_past.specs.Queues.{MayStand};
+ghost use Rattle.smil_past.specs.declared.plays.facts.PlayFacts.{PlayFacts as AnyPlayed};
 
 pub mod facts;
 mod row;
 
 use super::places::element_place;
 pub use facts::{PastInterval, PlayFacts};
-use row::{OwnEntry, own_row, turn_child};
+use row::{OwnEntry, may_wait, own_row, turn_child};
 use smil_instances::{DocumentHistory, subject};
 use smil_model::{Duplicate, Entry, Log, SerialTable, Step, Time};
 use smil_stretch::Clocks;
@@ -102,16 +105,26 @@ impl Plays {
     /// the clocks before the entry, of fewer than `DIARY_ENTRIES` entries. The entry's number, if
     /// it has one, is from -10^12 to 10^12. It takes no memory, and touches the entry's element
     /// and, at a begin, a repeat, an end or a cut, its time children: an end leaves none of them
-    /// deferred.
-    pub(crate) fn follow(&mut self, history: &DocumentHistory<'_>, clocks: &Clocks, entry: Entry)
+    /// deferred. It gives whether the element may stand in the queue of its time parent before the
+    /// entry.
+    pub(crate) fn follow(
+        &mut self,
+        history: &DocumentHistory<'_>,
+        clocks: &Clocks,
+        entry: Entry,
+    ) -> bool
         requires follows { MayBeTaken entry history.now.tree.now clocks.now history.now.log.now }
         requires near { HasNear entry.step }
-        ensures { (h : History)
+        ensures taken { (h : History)
             → IsEntryAfter h entry history.now.tree.now clocks.now history.now.log.now
             → TakesIn h entry self.old self.new }
+        ensures waits { (h : History)
+            → IsEntryAfter h entry history.now.tree.now clocks.now history.now.log.now
+            → self.old ≡ all_played h → MayStand h entry.step result }
     {
-        self.take_own(clocks, history.log, entry);
+        let waits = self.take_own(clocks, history.log, entry);
         self.take_children(history.tree, entry.step);
+        waits
     }
 
     /// Lets the plays be those of the document to which nothing has happened yet. It takes no
@@ -163,18 +176,22 @@ impl Plays {
         Some(&self.rows.get(place)?.1)
     }
 
-    // Takes in what an entry makes of its own element.
-    fn take_own(&mut self, clocks: &Clocks, log: &Log, entry: Entry)
+    // Takes in what an entry makes of its own element; whether that may stand in the queue of its
+    // time parent before the entry.
+    fn take_own(&mut self, clocks: &Clocks, log: &Log, entry: Entry) -> bool
         requires moment { IsMoment entry.moment }
         requires near { HasNear entry.step }
-        ensures { (h : History) → AreClocksAt h clocks.now entry.moment → h.log ≡ log.now
+        ensures taken { (h : History) → AreClocksAt h clocks.now entry.moment → h.log ≡ log.now
             → IsOwnTaken h entry self.old self.new }
+        ensures waits { (who : ℕ) (row : AnyPlayed)
+            → subject_of log.now entry.step ≡ Some who → row_of self.old who ≡ Some row
+            → result ≡ may_wait row entry.step }
     {
         let Some(who) = subject(log, entry.step) else {
-            return;
+            return true;
         };
         let Some(place) = element_place(&self.places, who) else {
-            return;
+            return true;
         };
         let own = OwnEntry {
             who,
@@ -182,7 +199,10 @@ impl Plays {
             clocks,
             log,
         };
-        own_row(&own, &mut self.rows[place].1);
+        let row = &mut self.rows[place].1;
+        let waits = may_wait(row, entry.step);
+        own_row(&own, row);
+        waits
     }
 
     // Takes in what a step makes of the time children of its element.

@@ -82,15 +82,16 @@ impl Queues {
         })
     }
 
-    /// Takes in an entry, which is lawful after what has happened so far. It takes no memory, and
-    /// touches the queue of the entry's element, that of its time parent, and the children that
-    /// play there.
-    pub fn follow(&mut self, tree: &Tree, entry: Entry)
-        requires { (h : History) × IsPastOf self.old tree.now entry h }
-        ensures { (h : History) → IsPastOf self.old tree.now entry h
+    /// Takes in an entry, which is lawful after what has happened so far, and before which its
+    /// element may stand in the queue of its time parent, or doesn't. It takes no memory, and
+    /// touches the queue of the entry's element, that of its time parent where it may stand there,
+    /// and the children that play there.
+    pub(crate) fn follow(&mut self, tree: &Tree, entry: Entry, waits: bool)
+        requires { (h : History) × IsPastOf self.old tree.now entry waits h }
+        ensures { (h : History) → IsPastOf self.old tree.now entry waits h
             → self.new ≡ kept_queues (with_entry h entry) }
     {
-        take_in(&mut self.queues, &self.classes, tree, entry.step);
+        take_in(&mut self.queues, &self.classes, tree, entry.step, waits);
         play_on(&mut self.playing, tree, entry.step);
     }
 

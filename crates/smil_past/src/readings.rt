@@ -152,8 +152,8 @@ impl Readings {
             → FollowsAll self.new (with_entry h entry) }
         ensures instances { self.new.instances ≡ self.old.instances }
     {
-        self.plays.follow(history, &self.clocks, entry);
-        self.queues.follow(history.tree, entry);
+        let waits = self.plays.follow(history, &self.clocks, entry);
+        self.queues.follow(history.tree, entry, waits);
         self.clocks.follow(entry);
     }
 }

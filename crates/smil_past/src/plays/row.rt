@@ -8,7 +8,7 @@ ghost use Rattle.smil_model.specs.Times.{IsMoment, IsNear};
 ghost use Rattle.smil_laws.specs.Near.{HasNear};
 ghost use Rattle.smil_model.specs.reach.Reach.{subject_of};
 ghost use Rattle.smil_instances.specs.Contribution.{AreClocksAt};
-ghost use Rattle.smil_past.specs.Followed.{began_row, child_after, deferred_row, finished_interval, finished_row, own_after, told_by, next_iteration, with_finished};
+ghost use Rattle.smil_past.specs.Followed.{began_row, child_after, deferred_row, finished_interval, finished_row, may_wait, own_after, told_by, next_iteration, with_finished};
 
 use super::facts::{PastInterval, PlayFacts};
 use smil_model::{Entry, Happening, Log, LogEntry, Step, Time};
@@ -50,6 +50,21 @@ pub fn own_row(own: &OwnEntry<'_>, row: &mut PlayFacts)
             row.passed = greater(row.passed, begin);
         }
         Step::Logged { place } => row.length = told(own.log, place, own.who, row.length),
+    }
+}
+
+/// Whether an element may stand in the queue of its time parent before a step on it, by its row
+/// then; false only where it doesn't. It takes no memory.
+pub fn may_wait(row: &PlayFacts, step: Step) -> bool
+    ensures { result ≡ may_wait row.now step }
+{
+    match step {
+        Step::Began { .. } | Step::Deferred { .. } => {
+            row.shown_deferred.is_some() || row.passed.is_some()
+        }
+        Step::Ended { .. } | Step::Cut { .. } => row.paused,
+        Step::Repeated { .. } | Step::Paused { .. } | Step::Resumed { .. } => true,
+        Step::Passed { .. } | Step::Logged { .. } => true,
     }
 }
 
@@ -107,6 +122,7 @@ fn carried_begin(clocks: &Clocks, who: u32, begin: i64, moment: i64) -> (i64, i6
 }
 
 // What a finish with a value makes of a row.
+#[inline(always)]
 fn finished(own: &OwnEntry<'_>, finish: i64, was_cut: bool, row: &mut PlayFacts)
     requires moment { IsMoment own.now.entry.moment }
     requires near { IsNear finish }

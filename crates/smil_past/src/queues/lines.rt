@@ -1,10 +1,10 @@
 //! The queues of all nodes of a document, in document order.
 
-ghost use Rattle.std.specs.Prelude.{◌≡◌, ℕ, List, [], length, IsSome, IfOk, slice_get};
+ghost use Rattle.std.specs.Prelude.{◌≡◌, ℕ, List, [], false, length, IsSome, IfOk, slice_get};
 ghost use Rattle.smil_model.specs.document.Document.{node_at, time_children};
 ghost use Rattle.smil_model.specs.diary.Diary.{History};
 ghost use Rattle.smil_model.specs.happening.Queue.{queue_of, rank as rank_in};
-ghost use Rattle.smil_past.specs.Queues.{AreTurned, HasRoom, MayTakeIn, classes_in, with_deferred, without_children, without_child, lines, with_paused, queues_after};
+ghost use Rattle.smil_past.specs.Queues.{AreTurned, AreWithout, HasRoom, MayTakeIn, classes_in, with_deferred, without_children, without_child, lines, with_paused, queues_after};
 
 use super::classes::class_at;
 use smil_excl::Queue;
@@ -41,32 +41,28 @@ pub fn first_at(queues: &[Queue], tree: &Tree, who: u32) -> Option<u32>
     queues[place].first()
 }
 
-/// Takes in a step, which is lawful after what has happened so far.
-pub fn take_in(queues: &mut [Queue], classes: &[Class], tree: &Tree, step: Step)
+/// Takes in a step, which is lawful after what has happened so far, and before which its element
+/// may stand in the queue of its time parent, or doesn't.
+pub fn take_in(queues: &mut [Queue], classes: &[Class], tree: &Tree, step: Step, waits: bool)
     requires classes { classes.now ≡ classes_in tree.now.nodes }
-    requires may { (h : History) × MayTakeIn queues.old tree.now.nodes step h }
-    ensures { (h : History) → MayTakeIn queues.old tree.now.nodes step h → queues.new
+    requires may { (h : History) × MayTakeIn queues.old tree.now.nodes step waits h }
+    ensures { (h : History) → MayTakeIn queues.old tree.now.nodes step waits h → queues.new
         ≡ lines tree.now.nodes (queues_after tree.now.nodes (queue_of h) step) }
 {
     match step {
         Step::Began { who, .. } => {
             empty(queues, tree, who);
-            leave(queues, tree, who);
+            leave(queues, tree, who, waits);
         }
         Step::Repeated { who, .. } => empty(queues, tree, who),
-        Step::Paused { who } => {
-            let rank = class_at(classes, tree, who).rank;
-            leave(queues, tree, who);
-            pause(queues, tree, who, rank);
-        }
+        Step::Paused { who } => pause(queues, tree, who, class_at(classes, tree, who).rank),
         Step::Deferred { who, .. } => {
             let rank = class_at(classes, tree, who).rank;
-            leave(queues, tree, who);
+            leave(queues, tree, who, waits);
             defer(queues, tree, who, rank);
         }
-        Step::Resumed { who } | Step::Ended { who, .. } | Step::Cut { who } => {
-            leave(queues, tree, who);
-        }
+        Step::Resumed { who } => leave(queues, tree, who, true),
+        Step::Ended { who, .. } | Step::Cut { who } => leave(queues, tree, who, waits),
         Step::Passed { .. } | Step::Logged { .. } => {}
     }
 }
@@ -82,12 +78,16 @@ fn empty(queues: &mut [Queue], tree: &Tree, who: u32)
     }
 }
 
-// Takes an element out of the queue of its time parent.
-fn leave(queues: &mut [Queue], tree: &Tree, who: u32)
+// Takes an element out of the queue of its time parent, where it may stand there.
+fn leave(queues: &mut [Queue], tree: &Tree, who: u32, waits: bool)
     requires all { length queues.old ≡ length tree.now.nodes }
     requires known { IsSome (node_at tree.now.nodes who) }
+    requires outside { waits ≡ false → AreWithout who queues.old }
     ensures { AreTurned queues.old queues.new tree.now.nodes (without_child tree.now.nodes who) }
 {
+    if !waits {
+        return;
+    }
     tree.valid();
     if let Some(place) = tree.parent_place(who) {
         queues[place].leave(who);

@@ -17,9 +17,9 @@ pub struct SyncbaseRow {
     serial: u32,
     /// How many of `syncs` the begin items wait for.
     begins: u32,
+    makeup: Makeup,
     /// What the begin items wait for, and then what the end items wait for.
     syncs: SmallVec<Syncbase, 1>,
-    makeup: Makeup,
 }
 
 impl Model for SyncbaseRow {
@@ -64,8 +64,8 @@ impl SyncbaseRow {
         Ok(SyncbaseRow {
             serial,
             begins: count,
-            syncs,
             makeup,
+            syncs,
         })
     }
 

@@ -19,6 +19,7 @@ take_in-requires-clause-may c =
         value = c.deref_mut.ensures.value ∙ ap (λ (k : KeptQueues). k.queues) (c.self.view_is ∙ past.known.value) ∙ ap (λ (ns : List Node). lines ns (queue_of h)) past.known.nodes;
         lawful = lawful_before h c.args.entry past.lawful;
         step_lawful = lawful_last h c.args.entry past.lawful;
+        stands = past.stands;
       },
     )
 
@@ -39,11 +40,12 @@ returns c = λ h past.
     let are = past.known in
     let nodes = c.args.tree.now.nodes in
     let y = c.args.entry in
-    let may : MayTakeIn c.deref_mut.result.now nodes y.step h = record {
+    let may : MayTakeIn c.deref_mut.result.now nodes y.step c.args.waits h = record {
       same_nodes = are.nodes;
       value = c.deref_mut.ensures.value ∙ ap (λ (k : KeptQueues). k.queues) (c.self.view_is ∙ are.value) ∙ ap (λ (ns : List Node). lines ns (queue_of h)) are.nodes;
       lawful = lawful_before h y past.lawful;
       step_lawful = lawful_last h y past.lawful;
+      stands = past.stands;
     } in
     let may_play : MayPlay c.deref_mut-2.result.now nodes y.step h = record {
       same_nodes = are.nodes;

@@ -2,8 +2,12 @@ use Rattle.std.proofs.Common.{ap, ◌∙◌}
 use Rattle.smil_model.specs.happening.Queue as model
 use Rattle.smil_excl.specs.QueueState.{QueueState, without, line_in}
 use Rattle.smil_excl.proofs.QueuePlaces.{without_is_without}
-use Rattle.smil_past.proofs.QueuePut.{child_changed, child_absent, parent_there, line_there}
+use Rattle.smil_past.proofs.QueuePut.{child_changed, child_absent, parent_there, line_there, none_left}
 use Rattle.smil_past.proofs.queues.lines.leave.Goals as goal
+
+pub returns-then-not-waits : goal.returns-then-not-waits
+returns-then-not-waits c = λ queue is.
+    is ∙ none_left c.args.tree.now.nodes c.args.who queue c.args.queues.now is (c.requires.outside c.if-not-waits.true)
 
 pub returns-in-Some : goal.returns-in-Some
 returns-in-Some c = λ queue is.
