@@ -1,5 +1,5 @@
 -- The view of an element by its facts.
-use Rattle.std.proofs.Common.{◌≡◌, refl, sym, ◌∙◌, ap, subst, ℕ, length, ℤ, Bool, true, false, Option, Some, None, arith}
+use Rattle.std.proofs.Common.{◌≡◌, refl, sym, ◌∙◌, ap, subst, ℕ, length, ℤ, Bool, Option, Some, None, arith}
 use Rattle.std.specs.Prelude.{cond, ◌-ℤ◌, ◌&&◌, ◌||◌, is_some, option_map, option_and_then, IfSome}
 use Rattle.std.specs.Option.{ForSome}
 use Rattle.std.proofs.lemmas.Int.{ints}
@@ -12,8 +12,6 @@ use Rattle.smil_model.specs.declared.document.Fill.{Fill}
 use Rattle.smil_model.specs.declared.document.Fill.TheVariants.{Remove, Freeze, Hold, Auto, ByDefault}
 use Rattle.smil_model.specs.declared.view.State.{State}
 use Rattle.smil_model.specs.declared.view.State.TheVariants as state
-use Rattle.smil_model.specs.declared.view.Shown.{Shown}
-use Rattle.smil_model.specs.declared.view.Shown.TheVariants as shown
 use Rattle.smil_model.specs.declared.view.View.{View}
 use Rattle.smil_model.specs.declared.view.ViewFacts.{ViewFacts}
 use Rattle.smil_model.specs.Times.{IsCarried, IsNear}
@@ -21,14 +19,18 @@ use Rattle.smil_model.specs.document.Defaults.{effective_fill}
 use Rattle.smil_model.specs.diary.Diary.{History, deferral, is_active, is_paused, iteration}
 use Rattle.smil_model.specs.diary.Clocks.{outer, outer_stands}
 use Rattle.smil_model.specs.diary.Plays.{FinishedInterval, plays, last_finished}
-use Rattle.smil_model.specs.shown.Views.{deferred_begin, finished_values, is_displaced, is_frozen_by, is_frozen_in, keeps, present_begin, resting_state, shown_begin, shown_end, shown_or, shown_time, shows_under, state_by, time_ancestors, view_by, view_facts, view_of, was_cut}
+use Rattle.smil_model.specs.shown.Views.{deferred_begin, finished_values, is_displaced, is_frozen_by, is_frozen_in, keeps, present_begin, shown_begin, shown_end, shows_under, state_by, time_ancestors, view_by, view_facts, view_of, was_cut}
 use Rattle.smil_fill.specs.Numbers.{IsTimeCarried}
 use Rattle.smil_laws.specs.Near.{IsIntervalNear, IsTimeNear}
 use Rattle.smil_past.specs.declared.plays.facts.PastInterval.{PastInterval}
-use Rattle.smil_past.specs.Played.{past_interval}
+use Rattle.smil_past.specs.Played.{past_interval, played}
+use Rattle.smil_past.specs.declared.plays.facts.PlayFacts.{PlayFacts}
+use Rattle.smil_past.proofs.KeptActivity.{begun_is}
+use Rattle.smil_model.specs.document.Valid.{IsNumberedTree}
+use Rattle.smil_element.specs.Subject.{IsFound}
 use Rattle.smil_element.specs.declared.present.Present.{Present}
 use Rattle.smil_element.specs.declared.subject.Subject.{Subject}
-use Rattle.smil_element.specs.Shown.{IsViewOf, is_cut, minds, playing_state, shown_last}
+use Rattle.smil_element.specs.Shown.{IsViewOf, is_cut, minds, shown_last}
 use Rattle.smil_instances.proofs.SensitiveItems.{serial_is}
 use Rattle.smil_past.specs.Past.{history_of}
 use Rattle.smil_model.specs.document.Document.{elements, node_at}
@@ -106,64 +108,6 @@ view_told h who now interval shows above e same active paused cut d standing def
     (view_same (facts_at h now interval shows above e who) (is_displaced h who)
     ∙ ap (λ k. view_by (facts_at h now interval shows above e k)) (sym same))
 
--- ---- an element that is active, and one of which nothing shows that it has played
-
-abbrev pub view_with : ℕ → State → Shown → Shown → ℕ → ℕ → View
-view_with serial s begin last iteration finished = record { serial = serial; state = s; begin = begin; «end» = last; iteration = iteration; finished = finished }
-
--- the numbers of plays, and the state with the times
-module _ (f : ViewFacts) (serial iteration finished : ℕ) (serial_is : serial ≡ f.serial) (iteration_is : iteration ≡ f.iteration) (finished_is : finished ≡ f.finished) where
-  numbers_told : (s : State) (b n : Shown) → b ≡ shown_begin f s → n ≡ shown_end f s → view_with serial s b n iteration finished ≡ view_in f s
-  numbers_told s b n begin_is end_is = rw (serial_is, iteration_is, finished_is, begin_is, end_is) refl
-
-  state_active : f.active ≡ true → state_by f ≡ playing_state f.paused
-  state_active on = ap (λ a. cond a (playing_state f.paused) (cond (is_some f.deferred) state.Deferred (resting_state (is_frozen_by f) (is_some f.interval) (is_some f.last)))) on
-
-  playing_begin : (paused : Bool) → shown_or shown.At f.begun ≡ shown_begin f (playing_state paused)
-  playing_begin true = refl
-  playing_begin false = refl
-
-  playing_end : (paused : Bool) → shown_or (λ (i : Interval). shown_time f i.«end») f.interval ≡ shown_end f (playing_state paused)
-  playing_end true = refl
-  playing_end false = refl
-
-  pub playing_told : f.active ≡ true → (s : State) (b n : Shown) → s ≡ playing_state f.paused → b ≡ shown_or shown.At f.begun → n ≡ shown_or (λ (i : Interval). shown_time f i.«end») f.interval
-      → view_with serial s b n iteration finished ≡ view_by f
-  playing_told on s b n state_is begin_is end_is =
-      ap (λ x. view_with serial x b n iteration finished) state_is
-      ∙ numbers_told (playing_state f.paused) b n (begin_is ∙ playing_begin f.paused) (end_is ∙ playing_end f.paused)
-      ∙ sym (ap (view_in f) (state_active on))
-
-  module _ (off : f.active ≡ false) (undeferred : is_some f.deferred ≡ false) (unfinished : f.last ≡ None) where
-    state_unplayed : state_by f ≡ resting_state false (is_some f.interval) false
-    state_unplayed =
-        ap (λ a. cond a (playing_state f.paused) (cond (is_some f.deferred) state.Deferred (resting_state (is_frozen_by f) (is_some f.interval) (is_some f.last)))) off
-        ∙ ap (λ d. cond d state.Deferred (resting_state (is_frozen_by f) (is_some f.interval) (is_some f.last))) undeferred
-        ∙ ap (λ (o : Option (ℤ × ℤ)). resting_state (is_some o && ((keeps f.fill f.displaced && f.parent_shows) || (f.cut && f.parent_frozen))) (is_some f.interval) (is_some o)) unfinished
-
-    pub waiting_told : (i : Interval) → f.interval ≡ Some i → (b n : Shown) → b ≡ shown_time f (At i.begin) → n ≡ shown_time f i.«end» → view_with serial state.Waiting b n iteration finished ≡ view_by f
-    waiting_told i is b n begin_is end_is =
-        numbers_told state.Waiting b n
-        (begin_is ∙ ap (shown_or (λ (k : Interval). shown_time f (At k.begin))) (sym is))
-        (end_is ∙ ap (shown_or (λ (k : Interval). shown_time f k.«end»)) (sym is))
-        ∙ sym (ap (view_in f) (state_unplayed ∙ ap (λ (o : Option Interval). resting_state false (is_some o) false) is))
-
-    pub idle_told : f.interval ≡ None → view_with serial state.Idle shown.Nothing shown.Nothing iteration finished ≡ view_by f
-    idle_told none =
-        numbers_told state.Idle shown.Nothing shown.Nothing refl refl
-        ∙ sym (ap (view_in f) (state_unplayed ∙ ap (λ (o : Option Interval). resting_state false (is_some o) false) none))
-
--- the view of an element by its current interval, where nothing of its time parent shows in it
-pub view_given : (s : Subject) (p : Present) (interval : Option Interval) (v : View) → s.present ≡ p → IsViewOf s interval v → (e : Node) (intervals : ℕ → Option Interval)
-    → node_at (elements p.past.now.document.nodes) p.who ≡ Some e → intervals p.who ≡ interval → v ≡ view_of (history_of p.past.now) p.moment intervals e
-view_given s p interval v same is e intervals at given =
-    let h = history_of p.past.now in
-    let parents = time_ancestors h.nodes e.serial in
-    let frozen = is_frozen_in h parents in
-    let shows = shows_under h frozen parents in
-    subst (λ (q : Present). (n : Node) (b c : Bool) → node_at (elements q.past.now.document.nodes) q.who ≡ Some n → v ≡ view_by (view_facts (history_of q.past.now) q.moment interval b c n)) same is e shows frozen at
-    ∙ ap (λ (i : Option Interval). view_by (view_facts h p.moment i shows frozen e)) (sym given ∙ ap intervals (sym (serial_is p.past.now.document.nodes p.who e at)))
-
 -- the last finished interval in document time, and whether it was cut
 pub last_told : (h : History) (who : ℕ) (o : Option PastInterval) → o ≡ option_map (past_interval h who) (last_finished h who) → option_map shown_last o ≡ option_map (finished_values h who) (last_finished h who)
 last_told h who o told = ap (option_map shown_last) told ∙ by (last_finished h who)
@@ -178,6 +122,32 @@ cut_told h who o told = ap is_cut told ∙ by (last_finished h who)
     by : (l : Option FinishedInterval) → is_cut (option_map (past_interval h who) l) ≡ was_cut l
     by None = refl
     by (Some f) = refl
+
+-- ---- what is found of an element, as its view tells it
+
+module _ (s : Subject) (is : IsFound s) (e : Node) (at : node_at (elements s.present.past.now.document.nodes) s.present.who ≡ Some e) where
+  pub same_serial : e.serial ≡ s.present.who
+  same_serial = serial_is s.present.past.now.document.nodes s.present.who e at
+
+  pub kept_is : s.played.now ≡ played (history_of s.present.past.now) e.serial
+  kept_is = is.played_is ∙ ap (played (history_of s.present.past.now)) (sym same_serial)
+
+  pub begun_told : (next : ℕ) → IsNumberedTree (record { nodes = s.present.past.now.document.nodes; next = next }) → is_active s.present.past.now.diary e.serial ≡ is_some s.played.now.begun
+  begun_told next tree = sym (ap (λ (r : PlayFacts). is_some r.begun) kept_is ∙ begun_is (history_of s.present.past.now) next tree e.serial)
+
+  pub unfinished_told : s.played.now.last_finished ≡ None → option_map (finished_values (history_of s.present.past.now) e.serial) (last_finished (history_of s.present.past.now) e.serial) ≡ None
+  unfinished_told none = sym (last_told (history_of s.present.past.now) e.serial s.played.now.last_finished (ap (λ (r : PlayFacts). r.last_finished) kept_is)) ∙ ap (option_map shown_last) none
+
+-- the view of an element by its current interval, where nothing of its time parent shows in it
+pub view_given : (s : Subject) (p : Present) (interval : Option Interval) (v : View) → s.present ≡ p → IsViewOf s interval v → (e : Node) (intervals : ℕ → Option Interval)
+    → node_at (elements p.past.now.document.nodes) p.who ≡ Some e → intervals p.who ≡ interval → v ≡ view_of (history_of p.past.now) p.moment intervals e
+view_given s p interval v same is e intervals at given =
+    let h = history_of p.past.now in
+    let parents = time_ancestors h.nodes e.serial in
+    let frozen = is_frozen_in h parents in
+    let shows = shows_under h frozen parents in
+    subst (λ (q : Present). (n : Node) (b c : Bool) → node_at (elements q.past.now.document.nodes) q.who ≡ Some n → v ≡ view_by (view_facts (history_of q.past.now) q.moment interval b c n)) same is e shows frozen at
+    ∙ ap (λ (i : Option Interval). view_by (view_facts h p.moment i shows frozen e)) (sym given ∙ ap intervals (sym (serial_is p.past.now.document.nodes p.who e at)))
 
 -- ---- numbers
 

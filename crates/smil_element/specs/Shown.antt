@@ -1,15 +1,11 @@
 -- What the view of an element follows from.
-use Rattle.std.specs.Prelude.{◌≡◌, ℕ, ℤ, ◌-ℤ◌, filter, Bool, false, Option, Some, None, is_some, if◌then◌else◌}
+use Rattle.std.specs.Prelude.{◌≡◌, ℕ, ℤ, filter, Bool, false, Option, Some, None, is_some}
 use Rattle.smil_model.specs.declared.document.Fill.{Fill}
 use Rattle.smil_model.specs.declared.document.Fill.TheVariants.{Freeze}
 use Rattle.smil_model.specs.declared.document.Node.{Node}
 use Rattle.smil_model.specs.declared.interval.Interval.{Interval}
-use Rattle.smil_model.specs.declared.view.State.{State}
-use Rattle.smil_model.specs.declared.view.State.TheVariants as state
 use Rattle.smil_model.specs.declared.view.View.{View}
-use Rattle.smil_model.specs.declared.view.ViewFacts.{ViewFacts}
 use Rattle.smil_model.specs.document.Document.{elements, is_element, lineage, node_at}
-use Rattle.smil_model.specs.diary.Clocks.{outer, outer_stands}
 use Rattle.smil_model.specs.diary.Diary.{History}
 use Rattle.smil_model.specs.shown.Views.{is_frozen_in, view_by, view_facts}
 use Rattle.smil_past.specs.Past.{history_of}
@@ -34,17 +30,6 @@ is_cut (Some last) = last.was_cut
 abbrev pub minds : Fill → Option (ℤ × ℤ) → Bool
 minds Freeze last = is_some last
 minds _ last = false
-
--- the state of an active element
-abbrev pub playing_state : Bool → State
-playing_state paused = if paused then state.Paused else state.Active
-
--- what shows the times of an element: how far document time is ahead of the clock of its time
--- parent, and whether that stands
-pub record AreFactsOf (s : Subject) (f : ViewFacts) : Type 0 where
-  pub standing : f.standing ≡ outer_stands (history_of s.present.past.now) s.present.who
-  pub shift : f.shift
-      ≡ s.present.moment -ℤ outer (history_of s.present.past.now) s.present.who s.present.moment
 
 -- a view is that of the element by its current interval, whatever its time parent does
 abbrev pub IsViewOf : Subject → Option Interval → View → Type 0

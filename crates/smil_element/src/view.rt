@@ -1,28 +1,27 @@
 //! The view of one element.
 
-ghost use Rattle.std.specs.Prelude.{◌≡◌, ◌||◌, ◌-ℤ◌, ℕ, None, Some, true, false, Option, is_some, option_map, IfSome};
+ghost use Rattle.std.specs.Prelude.{◌≡◌, ◌||◌, ◌-ℤ◌, ℕ, Bool, None, Some, true, false, Option, is_some, option_map, IfSome};
 ghost use Rattle.smil_model.specs.declared.document.Node.{Node as AnyNode};
 ghost use Rattle.smil_model.specs.declared.interval.Interval.{Interval as AnyInterval};
-ghost use Rattle.smil_model.specs.declared.view.Shown.TheVariants as shown;
-ghost use Rattle.smil_model.specs.declared.view.ViewFacts.{ViewFacts as AnyFacts};
 ghost use Rattle.smil_model.specs.document.Document.{elements, node_at, time_parent};
 ghost use Rattle.smil_model.specs.diary.Clocks.{outer};
 ghost use Rattle.smil_model.specs.diary.Diary.{lives_under};
 ghost use Rattle.smil_model.specs.diary.Lawful.{has_element};
 ghost use Rattle.smil_model.specs.shown.Views as model;
+ghost use Rattle.smil_fill.specs.Current.{AreCurrent, HasTimesWithin};
 ghost use Rattle.smil_fill.specs.Numbers.{HasNumbersWithin};
 ghost use Rattle.smil_model.specs.Times.{IsCarried};
-ghost use Rattle.smil_laws.specs.Near.{IsIntervalNear, IsTimeNear};
+ghost use Rattle.smil_laws.specs.Near.{IsIntervalNear};
 ghost use Rattle.smil_past.specs.Past.{IsPresent, history_of};
-ghost use Rattle.smil_element.specs.Shown.{AreFactsOf, IsViewOf, is_cut, minds, playing_state, shown_last};
+ghost use Rattle.smil_element.specs.Shown.{IsViewOf, is_cut, minds, shown_last};
 ghost use Rattle.smil_element.specs.Subject.{IsFound};
 
 use super::displaced::is_displaced;
 use super::frozen::is_frozen_above;
 use super::present::Present;
 use super::subject::{Subject, subject_at, subject_of};
-use smil_fill::view;
-use smil_model::{Fill, Interval, Shown, State, Time, View, ViewFacts};
+use smil_fill::{CurrentFacts, active_view, unplayed_view, view};
+use smil_model::{Fill, Interval, View, ViewFacts};
 use smil_past::PlayFacts;
 
 /// The view of an element at a moment, by its current interval, whose numbers are from -10^12 to
@@ -42,7 +41,7 @@ pub fn view_of(present: &Present<'_>, interval: Option<Interval>) -> View
     if played.begun.is_some() {
         playing_view(&subject_at(present, found.index), interval)
     } else if is_unplayed(played) {
-        unplayed_view(&subject_at(present, found.index), interval)
+        resting_view(&subject_at(present, found.index), interval)
     } else {
         view_by(&subject_at(present, found.index), interval)
     }
@@ -68,72 +67,16 @@ fn playing_view(subject: &Subject<'_>, interval: Option<Interval>) -> View
 {
     subject.present.past.possible();
     let played = subject.played;
-    View {
-        serial: subject.present.who,
-        state: playing_state(played.paused),
-        begin: settled(played.shown_begun),
-        end: present_end(subject, interval),
-        iteration: played.iteration,
-        finished: played.finished,
-    }
-}
-
-// The state of an active element.
-#[inline(always)]
-fn playing_state(paused: bool) -> State
-    ensures { result ≡ playing_state paused }
-{
-    if paused { State::Paused } else { State::Active }
-}
-
-// A value in document time.
-#[inline(always)]
-fn settled(value: Option<i64>) -> Shown
-    ensures { result ≡ model.shown_or shown.At value }
-{
-    match value {
-        Some(value) => Shown::At(value),
-        None => Shown::Nothing,
-    }
-}
-
-// The end of the current interval, as it is shown at the present moment.
-#[inline(always)]
-fn present_end(subject: &Subject<'_>, interval: Option<Interval>) -> Shown
-    requires found { IsFound subject.now }
-    requires near { IfSome interval IsIntervalNear }
-    ensures { (f : AnyFacts) → AreFactsOf subject.now f → result
-        ≡ model.shown_or (λ (i : AnyInterval). model.shown_time f i.«end») interval }
-{
-    match interval {
-        Some(interval) => shown_time(subject, interval.end),
-        None => Shown::Nothing,
-    }
-}
-
-// A time on the clock of an element's time parent, as it is shown at the present moment.
-#[inline(always)]
-fn shown_time(subject: &Subject<'_>, time: Time) -> Shown
-    requires found { IsFound subject.now }
-    requires near { IsTimeNear time }
-    ensures { (f : AnyFacts) → AreFactsOf subject.now f → result ≡ model.shown_time f time }
-{
-    match time {
-        Time::At(value) => {
-            if subject.clocks.outer_stands {
-                Shown::Standing
-            } else {
-                Shown::At(value + document_shift(subject))
-            }
-        }
-        Time::Indefinite => Shown::Indefinite,
-        Time::Unresolved => Shown::Unresolved,
-    }
+    active_view(
+        &current_facts(subject, interval),
+        played.paused,
+        played.shown_begun,
+    )
 }
 
 // The view of an element that is not active, and of which nothing shows that it has played.
 #[inline(always)]
-fn unplayed_view(subject: &Subject<'_>, interval: Option<Interval>) -> View
+fn resting_view(subject: &Subject<'_>, interval: Option<Interval>) -> View
     requires found { IsFound subject.now }
     requires near { IfSome interval IsIntervalNear }
     requires active { is_some subject.now.played.now.begun ≡ false }
@@ -142,24 +85,28 @@ fn unplayed_view(subject: &Subject<'_>, interval: Option<Interval>) -> View
     ensures { IsViewOf subject.now interval result }
 {
     subject.present.past.possible();
+    unplayed_view(&current_facts(subject, interval))
+}
+
+// What the view of any element follows from, among its facts.
+#[inline(always)]
+fn current_facts(subject: &Subject<'_>, interval: Option<Interval>) -> CurrentFacts
+    requires found { IsFound subject.now }
+    requires near { IfSome interval IsIntervalNear }
+    ensures current { (e : AnyNode) (shows above : Bool)
+        → node_at (elements subject.now.present.past.now.document.nodes) subject.now.present.who
+        ≡ Some e → AreCurrent result (model.view_facts (history_of subject.now.present.past.now)
+        subject.now.present.moment interval shows above e) }
+    ensures times { HasTimesWithin result }
+{
     let played = subject.played;
-    match interval {
-        Some(interval) => View {
-            serial: subject.present.who,
-            state: State::Waiting,
-            begin: shown_time(subject, Time::At(interval.begin)),
-            end: shown_time(subject, interval.end),
-            iteration: played.iteration,
-            finished: played.finished,
-        },
-        None => View {
-            serial: subject.present.who,
-            state: State::Idle,
-            begin: Shown::Nothing,
-            end: Shown::Nothing,
-            iteration: played.iteration,
-            finished: played.finished,
-        },
+    CurrentFacts {
+        serial: subject.present.who,
+        interval,
+        standing: subject.clocks.outer_stands,
+        shift: document_shift(subject),
+        iteration: played.iteration,
+        finished: played.finished,
     }
 }
 

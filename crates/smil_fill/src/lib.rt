@@ -5,4 +5,4 @@ mod states;
 mod views;
 
 pub use smil_model::ViewFacts;
-pub use views::view;
+pub use views::{CurrentFacts, active_view, unplayed_view, view};

@@ -1,7 +1,8 @@
-//! The state of an element.
+//! What decides the state of an element.
 
 ghost use Rattle.std.specs.Prelude.{◌≡◌};
-ghost use Rattle.smil_model.specs.shown.Views.{keeps, is_frozen_by, state_by};
+ghost use Rattle.smil_model.specs.shown.Views.{keeps, is_frozen_by};
+ghost use Rattle.smil_fill.specs.Current.{playing_state};
 
 use smil_model::{Fill, State, ViewFacts};
 
@@ -16,9 +17,9 @@ fn is_kept(fill: Fill, displaced: bool) -> bool
     }
 }
 
-// Whether an element is shown as it was at its end: by its own fill, or since it was cut and its
-// time parent is frozen.
-fn is_frozen(facts: &ViewFacts) -> bool
+/// Whether an element that is neither active nor deferred is shown as it was at its end: by its own
+/// fill, or since it was cut and its time parent is frozen.
+pub fn is_frozen(facts: &ViewFacts) -> bool
     ensures { result ≡ is_frozen_by facts.now }
 {
     facts.last.is_some()
@@ -26,25 +27,10 @@ fn is_frozen(facts: &ViewFacts) -> bool
             || (facts.cut && facts.parent_frozen))
 }
 
-/// The first state that applies.
-pub fn state(facts: &ViewFacts) -> State
-    ensures { result ≡ state_by facts.now }
+/// The state of an active element.
+#[inline(always)]
+pub fn playing_state(paused: bool) -> State
+    ensures { result ≡ playing_state paused }
 {
-    if facts.active {
-        if facts.paused {
-            State::Paused
-        } else {
-            State::Active
-        }
-    } else if facts.deferred.is_some() {
-        State::Deferred
-    } else if is_frozen(facts) {
-        State::Frozen
-    } else if facts.interval.is_some() {
-        State::Waiting
-    } else if facts.last.is_some() {
-        State::Done
-    } else {
-        State::Idle
-    }
+    if paused { State::Paused } else { State::Active }
 }

@@ -75,6 +75,13 @@ rejected_interval facts end_of rest later next b i up at is bad part =
     (ap (λ (x : ℤ). is_accepted facts.parent_start x i.«end») (sym start) ∙ bad)
     (part ∙ ap (λ (x : ℤ). filter (is_from (Some (after_end x i.«end»))) later) start)
 
+pub accepted_interval : (facts : Facts) (end_of : ℤ → Option Time) (rest later : List ℤ) (b : ℤ) (i : Interval) → rest ≡ b ∷ later → Some i ≡ option_map (interval_to b) (end_of b) → is_accepted facts.parent_start i.begin i.«end» ≡ true → first_from facts end_of None rest ≡ Some i
+accepted_interval facts end_of rest later b i at is good =
+    let start : i.begin ≡ b = begin_is b (end_of b) i is in
+    let finish = end_is b (end_of b) i is in
+    accepted facts end_of rest later b i.«end» at finish (ap (λ (x : ℤ). is_accepted facts.parent_start x i.«end») (sym start) ∙ good)
+    ∙ sym (is ∙ ap (option_map (interval_to b)) finish)
+
 pub none_left : (facts : Facts) (end_of : ℤ → Option Time) (rest : List ℤ) → length rest ≡ 0 → first_from facts end_of None rest ≡ None
 none_left facts end_of [] none = refl
 none_left facts end_of (b ∷ bs) none = absurd (omega (arith, none))

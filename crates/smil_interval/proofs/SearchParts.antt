@@ -1,13 +1,13 @@
 -- The parts of rising instance times that pass a test, as a binary search finds them.
-use Rattle.std.proofs.Common.{◌≡◌, refl, sym, ◌∙◌, ap, subst, ℕ, ◌-◌, List, length, take, drop, ℤ, Bool, true, false, arith}
-use Rattle.std.specs.Prelude.{not, filter, int_le, int_lt, Option, None}
+use Rattle.std.proofs.Common.{◌≡◌, refl, sym, ◌∙◌, ap, subst, ℕ, ◌-◌, List, [], ◌∷◌, length, take, drop, ℤ, Bool, true, false, arith}
+use Rattle.std.specs.Prelude.{not, filter, int_le, int_lt, Option, Some, None}
 use Rattle.std.specs.List.Sorted.{IsPartitionedBy, IsPartitionPoint}
 use Rattle.std.proofs.lemmas.Slice.{between_to_end}
 use Rattle.smil_model.specs.declared.times.Time.{Time}
-use Rattle.smil_model.specs.declared.times.Time.TheVariants.{At}
+use Rattle.smil_model.specs.declared.times.Time.TheVariants.{At, Indefinite, Unresolved}
 use Rattle.smil_model.specs.declared.interval.Interval.{Interval}
 use Rattle.smil_model.specs.Times.{time_le}
-use Rattle.smil_model.specs.interval.Intervals.{counts_from, counts_after}
+use Rattle.smil_model.specs.interval.Intervals.{after_end, counts_from, counts_after, is_from}
 use Rattle.smil_model.proofs.NumberOrders.{le_both, not_le_is_lt}
 use Rattle.smil_model.specs.Rising.{IsRising as IsRisingBy}
 use Rattle.smil_interval.specs.Rising.{IsRising, IsRisingTimes}
@@ -43,3 +43,11 @@ uncounted_parted last b ts up =
 
 pub all_count : (xs : List ℤ) → xs ≡ filter (counts_after None) xs
 all_count xs = sym (filter_all (counts_after None) xs (λ k d inside. refl))
+
+-- no begin stands from an end on that is no number
+pub none_from : (b : ℤ) (t : Time) (xs : List ℤ) → ((x : ℤ) → t ≡ At x → ⊥) → [] ≡ filter (is_from (Some (after_end b t))) xs
+none_from b (At x) xs never = absurd (never x refl)
+none_from b Indefinite [] never = refl
+none_from b Indefinite (x ∷ xs) never = none_from b Indefinite xs never
+none_from b Unresolved [] never = refl
+none_from b Unresolved (x ∷ xs) never = none_from b Unresolved xs never

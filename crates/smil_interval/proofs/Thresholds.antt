@@ -28,3 +28,16 @@ none_passes q xs k y parted len last fails = (
   λ j d low high. fails_before q xs k y parted (omega (arith, len)) last fails j d (omega (arith, high, len)),
   λ j d low high. absurd (omega (arith, low, high)),
 )
+
+-- the only value passes
+pub alone_passes : {A : Type 0} (q : A → Bool) (xs : List A) (k : ℕ) (y : A) → length xs ≡ suc k → k ≡ 0 → y ≡ slice_index_or xs k y → q y ≡ false → IsPartitionPoint (λ v. q v ≡ true) (λ v. q v ≡ false) xs 0
+alone_passes q xs k y len alone last passes = (
+  λ j d low high. absurd (omega (arith, high)),
+  λ j d low high.
+      let here : j ≡ k = omega (arith, high, len, alone) in
+      ap (λ n. q (slice_index_or xs n d)) here ∙ ap q (stands_at xs k y d (omega (arith, len)) last) ∙ passes,
+)
+
+-- there is no value
+pub nothing_passes : {A : Type 0} (q : A → Bool) (xs : List A) → length xs ≡ 0 → IsPartitionPoint (λ v. q v ≡ true) (λ v. q v ≡ false) xs 0
+nothing_passes q xs none = (λ j d low high. absurd (omega (arith, high)), λ j d low high. absurd (omega (arith, high, none)))

@@ -1,5 +1,5 @@
 -- What holds of a time holds of the later ones: it isn't before a limit, and as an end instance it counts.
-use Rattle.std.proofs.Common.{◌≡◌, refl, ◌∙◌, ap, subst, ℤ, Bool, true, false}
+use Rattle.std.proofs.Common.{◌≡◌, refl, sym, ◌∙◌, ap, subst, ℤ, Bool, true, false}
 use Rattle.std.specs.Prelude.{int_le, not, ◌&&◌, Option}
 use Rattle.std.proofs.lemmas.Bool.{and_parts}
 use Rattle.smil_model.specs.declared.times.Time.{Time}
@@ -7,6 +7,7 @@ use Rattle.smil_model.specs.declared.times.Time.TheVariants.{At, Indefinite, Unr
 use Rattle.smil_model.specs.declared.interval.Interval.{Interval}
 use Rattle.smil_model.specs.Times.{time_le}
 use Rattle.smil_model.specs.interval.Intervals.{counts_from, ended_at}
+use Rattle.smil_interval.specs.Rising.{counts_by}
 use Rattle.smil_model.proofs.NumberOrders.{le_both, le_exact, time_both}
 
 pub from_up : (from : Time) (x y : ℤ) → int_le x y ≡ true → time_le from (At x) ≡ true → time_le from (At y) ≡ true
@@ -33,3 +34,20 @@ counts_up last b Indefinite Unresolved q r = refl
 counts_up last b Unresolved (At y) q r = cc
 counts_up last b Unresolved Indefinite q r = refl
 counts_up last b Unresolved Unresolved q r = refl
+
+-- whether the last interval ended at a begin counts only at an end instance that is equal to it
+counted_at : (last : Option Interval) (b : ℤ) (t : Time) → counts_by b (ended_at last (At b)) t ≡ counts_from last b t
+counted_at last b (At x) = step (int_le x b && int_le b x) refl
+  where
+    step : (u : Bool) → (int_le x b && int_le b x) ≡ u → counts_by b (ended_at last (At b)) (At x) ≡ counts_from last b (At x)
+    step true at =
+        let both = and_parts (int_le x b) (int_le b x) at in
+        ap (λ z. int_le b x && not ((int_le x b && int_le b x) && ended_at last (At z))) (sym (le_exact x b both.0 both.1))
+    step false at =
+        ap (λ v. int_le b x && not (v && ended_at last (At b))) at
+        ∙ sym (ap (λ v. int_le b x && not (v && ended_at last (At x))) at)
+counted_at last b Indefinite = refl
+counted_at last b Unresolved = refl
+
+pub counted_is : (last : Option Interval) (b : ℤ) → counts_by b (ended_at last (At b)) ≡ counts_from last b
+counted_is last b = λ i t. counted_at last b t i

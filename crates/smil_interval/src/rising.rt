@@ -29,26 +29,23 @@ impl Test<i64> for LaterThan {
 // has length 0.
 #[derive(Clone, Copy)]
 struct FromEnd {
-    interval: Interval,
+    begin: i64,
+    end: i64,
 }
 
 impl Test<i64> for FromEnd {
     ghost use Rattle.std.specs.Prelude.{Some};
+    ghost use Rattle.smil_model.specs.declared.times.Time.TheVariants.{At};
     ghost use Rattle.smil_model.specs.interval.Intervals.{is_from, after_end};
 
-    ghost passes = { λ test. is_from (Some (after_end test.interval.begin test.interval.«end»)) };
+    ghost passes = { λ test. is_from (Some (after_end test.begin (At test.«end»))) };
 
     #[inline(always)]
     fn passes(&self, begin: i64) -> bool {
-        match self.interval.end {
-            Time::At(end) => {
-                if self.interval.begin == end {
-                    begin > end
-                } else {
-                    begin >= end
-                }
-            }
-            _ => false,
+        if self.begin == self.end {
+            begin > self.end
+        } else {
+            begin >= self.end
         }
     }
 }
@@ -57,21 +54,19 @@ impl Test<i64> for FromEnd {
 // not equal to it where the last interval ended there.
 #[derive(Clone, Copy)]
 struct CountsFrom {
-    last: Option<Interval>,
     begin: i64,
+    ended: bool,
 }
 
 impl Test<Time> for CountsFrom {
-    ghost use Rattle.smil_model.specs.interval.Intervals.{counts_from};
+    ghost use Rattle.smil_interval.specs.Rising.{counts_by};
 
-    ghost passes = { λ test. counts_from test.last test.begin };
+    ghost passes = { λ test. counts_by test.begin test.ended };
 
     #[inline(always)]
     fn passes(&self, end: Time) -> bool {
         match end {
-            Time::At(value) => {
-                value > self.begin || value == self.begin && !ended_at(self.last, end)
-            }
+            Time::At(value) => value > self.begin || value == self.begin && !self.ended,
             _ => true,
         }
     }
@@ -84,7 +79,7 @@ pub fn after(begins: &[i64], value: i64) -> &[i64]
     ensures part { result.now ≡ filter (int_lt value) begins.now }
     ensures rising { IsRising result.now }
 {
-    passing(begins, &LaterThan { value })
+    passing(begins, LaterThan { value })
 }
 
 /// The begins that an excl has not let pass.
@@ -109,7 +104,16 @@ pub fn from_end(begins: &[i64], interval: Interval) -> &[i64]
         begins.now }
     ensures rising { IsRising result.now }
 {
-    passing(begins, &FromEnd { interval })
+    match interval.end {
+        Time::At(end) => passing(
+            begins,
+            FromEnd {
+                begin: interval.begin,
+                end,
+            },
+        ),
+        _ => &[],
+    }
 }
 
 /// The end instances that count for an interval that begins at `begin`.
@@ -119,7 +123,8 @@ pub fn counting(ends: &[Time], last: Option<Interval>, begin: i64) -> &[Time]
     ensures part { result.now ≡ filter (counts_from last begin) ends.now }
     ensures rising { IsRisingTimes result.now }
 {
-    passing(ends, &CountsFrom { last, begin })
+    let ended = ended_at(last, Time::At(begin));
+    passing(ends, CountsFrom { begin, ended })
 }
 
 // Whether the last finished interval ended at this time.

@@ -2,7 +2,7 @@
 
 ghost use Rattle.std.specs.Prelude.{◌≡◌, None, filter};
 ghost use Rattle.smil_model.specs.interval.Intervals;
-ghost use Rattle.smil_model.specs.interval.Intervals.{coming_interval, next_from, after_end, counts_after};
+ghost use Rattle.smil_model.specs.interval.Intervals.{coming_interval, first_from, next_from, after_end, counts_after};
 ghost use Rattle.smil_interval.specs.Rising.{IsRising, IsRisingTimes};
 ghost use Rattle.smil_interval.specs.Next.{interval_after};
 
@@ -21,7 +21,33 @@ pub fn first_interval(begins: &[i64], ends: &[Time], facts: &IntervalFacts<'_>) 
     requires ends_rise { IsRisingTimes ends.now }
     ensures { result ≡ coming_interval facts.now begins.now ends.now None }
 {
-    let mut rest = not_passed(begins, facts.passed);
+    let rest = not_passed(begins, facts.passed);
+    // The first try stands apart from the search, since it is mostly the only one.
+    let Some((begin, later)) = rest.split_first() else {
+        return None;
+    };
+    let interval = interval_at(facts, begins, ends, *begin)?;
+    if is_accepted(facts.parent_start, interval) {
+        return Some(interval);
+    }
+    first_accepted(from_end(later, interval), begins, ends, facts)
+}
+
+// The first interval by the begins that are left.
+#[inline(always)]
+fn first_accepted(
+    left: &[i64],
+    begins: &[i64],
+    ends: &[Time],
+    facts: &IntervalFacts<'_>,
+) -> Option<Interval>
+    requires left_rises { IsRising left.now }
+    requires begins_rise { IsRising begins.now }
+    requires ends_rise { IsRisingTimes ends.now }
+    ensures { result ≡ first_from facts.now
+        (Intervals.interval_end facts.now begins.now ends.now) None left.now }
+{
+    let mut rest = left;
     'search: while let Some((begin, later)) = rest.split_first() {
         let interval = interval_at(facts, begins, ends, *begin)?;
         if is_accepted(facts.parent_start, interval) {

@@ -5,4 +5,4 @@ pub returns-then-is_some : goal.returns-then-is_some
 returns-then-is_some c = view_given c.subject_at.result c.args.present.now c.args.interval c.playing_view.result c.subject_at.ensures.same c.playing_view.ensures
 
 pub returns-then-is_unplayed : goal.returns-then-is_unplayed
-returns-then-is_unplayed c = view_given c.subject_at-then-is_unplayed.result c.args.present.now c.args.interval c.unplayed_view.result c.subject_at-then-is_unplayed.ensures.same c.unplayed_view.ensures
+returns-then-is_unplayed c = view_given c.subject_at-then-is_unplayed.result c.args.present.now c.args.interval c.resting_view.result c.subject_at-then-is_unplayed.ensures.same c.resting_view.ensures

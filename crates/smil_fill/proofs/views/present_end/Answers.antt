@@ -1,4 +1,4 @@
-use Rattle.smil_fill.proofs.views.end.Goals as goal
+use Rattle.smil_fill.proofs.views.present_end.Goals as goal
 
 -- the end of the current interval is among the numbers
 pub present-requires-clause-time : goal.present-requires-clause-time
