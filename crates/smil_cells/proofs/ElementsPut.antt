@@ -1,7 +1,8 @@
 -- The elements that are put in, by one test after another.
-use Rattle.std.proofs.Common.{◌≡◌, ◌∙◌, refl, sym, ap, ℕ, ◌+◌, ◌<◌, List, Option, Some, None, Bool, true, false, inl, inr, length, take, get_or}
-use Rattle.std.specs.Prelude.{◌⊎◌, ◌&&◌, ◌||◌, slice_get}
-use Rattle.std.proofs.lemmas.Bool.{or_cases, or_left, or_right}
+use Rattle.std.proofs.Common.{◌≡◌, ◌∙◌, refl, sym, ap, ℕ, ◌+◌, ◌<◌, List, [], ◌∷◌, Option, Some, None, Bool, true, false, inl, inr, length, take, get_or}
+use Rattle.std.specs.Prelude.{◌⊎◌, ◌&&◌, ◌||◌, is_some, slice_get}
+use Rattle.std.specs.List.{list_any}
+use Rattle.std.proofs.lemmas.Bool.{or_cases, or_from, or_left, or_parts, or_right}
 use Rattle.std.proofs.lemmas.Option.{get_or_from_slice_get, same_Some, slice_get_within}
 use Rattle.std.proofs.lemmas.List.Folds.{list_any_more}
 use Rattle.smil_model.specs.declared.diary.Entry.{Entry}
@@ -10,7 +11,11 @@ use Rattle.smil_model.specs.declared.document.Node.{Node}
 use Rattle.smil_model.specs.document.Document.{elements, is_within, node_at, serial_of, time_children}
 use Rattle.smil_model.specs.document.Closure.{has}
 use Rattle.smil_model.specs.diary.Diary.{History}
-use Rattle.smil_model.specs.reach.Reach.{subject_of}
+use Rattle.smil_model.specs.diary.Plays.{last_finished}
+use Rattle.smil_graph.specs.Tables.{takes_turns}
+use Rattle.smil_past.proofs.ItemReferences.{stands}
+use Rattle.smil_past.specs.Makeups.{freezes, keeps_children}
+use Rattle.smil_cells.specs.Evaluated.{acts_on}
 use Rattle.smil_cells.specs.Shown.{ArePutWhere, any_rests, any_shows, displaced_in, elements_at, may_rest, rests_under, shows_from, shows_in}
 use Rattle.smil_cells.proofs.ElementsByPlace.{still_stands}
 
@@ -55,14 +60,26 @@ put_then nodes p q r old mid new is first second = record {
 -- ---- one more of a list
 
 pub shows_more : (h : History) (entries : List Entry) (i s : ℕ) (none : Entry) → i < length entries
-    → any_shows h (take (i + 1) entries) s ≡ (any_shows h (take i entries) s || shows_from h (get_or entries i none).step (subject_of h.log (get_or entries i none).step) s)
-shows_more h entries i s none below = list_any_more (λ (y : Entry). shows_from h y.step (subject_of h.log y.step) s) entries i none below
+    → any_shows h (take (i + 1) entries) s ≡ (any_shows h (take i entries) s || shows_from h (get_or entries i none).step (acts_on (get_or entries i none).step) s)
+shows_more h entries i s none below = list_any_more (λ (y : Entry). shows_from h y.step (acts_on y.step) s) entries i none below
 
 pub rests_more : (h : History) (children : List Node) (k s : ℕ) (n : Node) → slice_get children k ≡ Some n
     → any_rests h (take (k + 1) children) s ≡ (any_rests h (take k children) s || (may_rest h n && is_within h.nodes n.serial s))
 rests_more h children k s n at =
     list_any_more (λ (m : Node). may_rest h m && is_within h.nodes m.serial s) children k n (slice_get_within children k n at)
     ∙ ap (λ (m : Node). any_rests h (take k children) s || (may_rest h m && is_within h.nodes m.serial s)) (get_or_from_slice_get children k n n at)
+
+-- a seq or an excl of which none is kept has none that freezes, and none may rest where none freezes
+pub none_freezes : (nodes : List Node) (who : ℕ) (e : Node) → node_at (elements nodes) who ≡ Some e → takes_turns (node_at (elements nodes) who) ≡ true → keeps_children nodes e ≡ false → list_any (freezes nodes) (time_children nodes who) ≡ false
+none_freezes nodes who e here turns none =
+    ap (λ s. list_any (freezes nodes) (time_children nodes s)) (sym (stands (elements nodes) who e here).serial)
+    ∙ (ap (λ b. b && list_any (freezes nodes) (time_children nodes e.serial)) (sym (ap takes_turns (sym here) ∙ turns)) ∙ none)
+
+pub none_rest : (h : History) (children : List Node) (s : ℕ) → list_any (freezes h.nodes) children ≡ false → any_rests h children s ≡ false
+none_rest h [] s none = refl
+none_rest h (n ∷ ns) s none =
+    let parts = or_parts (freezes h.nodes n) (list_any (freezes h.nodes) ns) none in
+    or_from _ _ (ap (λ b. (b && is_some (last_finished h n.serial)) && is_within h.nodes n.serial s) parts.0) (none_rest h ns s parts.1)
 
 -- ---- an element, and the children that it displaces
 

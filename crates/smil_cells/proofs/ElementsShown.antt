@@ -10,9 +10,11 @@ use Rattle.smil_model.specs.declared.document.Kind.{Kind}
 use Rattle.smil_model.specs.declared.document.Node.{Node}
 use Rattle.smil_model.specs.document.Document.{elements, is_element, is_excl_kind, is_seq_kind, is_within, node_at, serial_of, serials, time_parent, upwards}
 use Rattle.smil_model.specs.document.Closure.{has}
-use Rattle.smil_model.specs.document.Valid.{kind_of}
+use Rattle.smil_model.specs.document.Valid.{IsDistinct, kind_of}
 use Rattle.smil_model.specs.diary.Diary.{History}
 use Rattle.smil_laws.specs.Seen.{starts}
+use Rattle.smil_graph.specs.Tables.{takes_turns}
+use Rattle.smil_past.proofs.ElementPlaces.{parent_found}
 use Rattle.smil_past.proofs.KnownNodes.{known_place}
 use Rattle.smil_past.proofs.TimeParents.{IsUp}
 use Rattle.smil_cells.specs.Shown.{displaced_in, rests_under, sequenced, shows_in}
@@ -113,6 +115,16 @@ kept_kind nodes who parent kind step t above q started is =
     by : (b : Bool) → serial_of (cond b (Some above.node) None) ≡ cond b (Some parent) None
     by true = ap Some above.serial
     by false = refl
+
+pub turns_there : (nodes : List Node) (who parent : ℕ) (kind : Kind) → IsDistinct nodes → is_some (node_at nodes who) ≡ true → (above : IsUp nodes who parent) → Some kind ≡ kind_of (node_at nodes parent) → (is_seq_kind kind || is_excl_kind kind) ≡ true
+    → takes_turns (node_at (elements nodes) parent) ≡ true
+turns_there nodes who parent kind distinct known above q is =
+    ap takes_turns (ap (node_at (elements nodes)) (sym above.serial) ∙ parent_found nodes who above.node distinct known above.under)
+    ∙ (ap (λ (k : Kind). is_seq_kind k || is_excl_kind k) (sym (same_Some kind above.node.kind (q ∙ ap kind_of above.known))) ∙ is)
+
+pub turns_known : (o : Option Node) → takes_turns o ≡ true → is_some o ≡ true
+turns_known None q = cc
+turns_known (Some n) q = refl
 
 pub none_displaced : (nodes : List Node) (step : Step) (who : ℕ) → None ≡ serial_of (time_parent nodes who) → serial_of (displaced_in nodes step who) ≡ None
 none_displaced nodes step who q = by_start (starts step) (by_parent (time_parent nodes who) q)

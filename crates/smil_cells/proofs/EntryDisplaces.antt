@@ -25,7 +25,8 @@ use Rattle.smil_model.specs.diary.Plays.{Plays, plays, last_finished}
 use Rattle.smil_model.specs.shown.Views.{keeps, is_finish, since_finish, sets_off_sibling, begins_next, is_displaced, document_value, deferred_begin, finished_values, was_cut, present_begin, view_facts, resting_state, state_by, shown_time, shown_or, shown_begin, shown_end, is_frozen_by, is_frozen_under, shows_under, is_frozen_in, view_by}
 use Rattle.smil_laws.specs.Locality.{ParentsBefore}
 use Rattle.smil_laws.proofs.ForeignEntries.{Apart, is_about, Moves, then, last_place-push, last_place-below, active-then, paused-then, parent-then, parent_held-then, plays-then, deferral-then, iteration-then, tail-then, reset-then}
-use Rattle.smil_cells.specs.Shown.{is_freeze, may_rest}
+use Rattle.smil_past.specs.Makeups.{is_freeze}
+use Rattle.smil_cells.specs.Shown.{may_rest}
 
 map_same : {A B : Type 0} (f g : A → B) (o : Option A) → ((a : A) → f a ≡ g a) → option_map f o ≡ option_map g o
 map_same f g None same = refl

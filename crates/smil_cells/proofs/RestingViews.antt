@@ -14,7 +14,7 @@ use Rattle.smil_model.specs.declared.view.View.{View}
 use Rattle.smil_model.specs.document.Document.{is_element, elements, node_at, lineage, is_within, time_parent, has_serial, has_kind, is_in_seq, is_in_excl, is_seq_kind, is_excl_kind, is_time_child, time_children, just_before, previous_child, previous_in_seq}
 use Rattle.smil_model.specs.diary.Diary.{History, up_to}
 use Rattle.smil_model.specs.interval.Current.{current_interval}
-use Rattle.smil_model.specs.reach.Reach.{shares_parent, subject_of}
+use Rattle.smil_model.specs.reach.Reach.{shares_parent}
 use Rattle.smil_model.specs.shown.Views.{is_sibling, sets_off_sibling, begins_next, view_facts, shows_under, is_frozen_in, view_by, time_ancestors}
 use Rattle.smil_laws.specs.Locality.{ParentsBefore}
 use Rattle.smil_laws.specs.Same.{view_at}
@@ -27,6 +27,7 @@ use Rattle.smil_laws.proofs.ForeignEntries.{Apart, is_about}
 use Rattle.smil_laws.proofs.ListMembers.{holds, held_reverse, found_held}
 use Rattle.smil_laws.proofs.UnreachedIntervals.{about_none, about_no_one, absent_up, absent_reverse}
 use Rattle.smil_laws.proofs.ViewsAbove.{Unseen, all_unseen, no_set_off, no_begin_next}
+use Rattle.smil_cells.specs.Evaluated.{acts_on}
 use Rattle.smil_cells.specs.Shown.{sequenced, displaced_in, may_rest, any_rests, rests_under, shows_from, any_shows}
 use Rattle.smil_cells.proofs.EntryDisplaces.{is_set_off, Unmoved, rest-then, view-then}
 
@@ -105,10 +106,10 @@ unfolding total
 absent_above x [] l = refl
 absent_above x (n ∷ ns) l = or_from _ _ (ne_eqb n.serial x (λ e. absurd (omega (arith, e, l)))) (absent_above x ns (omega (arith, l)))
 
-no_start : (log : List LogEntry) (step : Step) → subject_of log step ≡ None → starts step ≡ false
-no_start log (Began who begin) q = cc
-no_start log (Resumed who) q = cc
-no_start log _ q = refl
+no_start : (step : Step) → acts_on step ≡ None → starts step ≡ false
+no_start (Began who begin) q = cc
+no_start (Resumed who) q = cc
+no_start _ q = refl
 
 -- ---- what a step on one element displaces
 
@@ -296,36 +297,40 @@ module _ (h : History) (first : ParentsBefore (reverse h.nodes)) (y : Entry) (x 
 
 -- ---- the entries one after another
 
--- whom an entry is on, where it does not show in the element: some serial, that of no node where it is on none
+-- the history without its log, by which no view follows
+abbrev bare : History → History
+bare h = record { nodes = h.nodes; log = []; diary = h.diary }
+
+-- whom an entry acts on, where it does not show in the element: some serial, that of no node where it acts on none
 record IsElsewhere (h : History) (step : Step) (s : ℕ) : Type 0 where
   who : ℕ
-  only : (t : ℕ) → t == who ≡ false → is_about h.log t step ≡ false
+  only : (t : ℕ) → t == who ≡ false → is_about [] t step ≡ false
   free : is_within h.nodes who s ≡ false
   calm : rests_under h (displaced_in h.nodes step who) s ≡ false
 
-elsewhere : (h : History) (step : Step) (s : ℕ) (o : Option ℕ) → subject_of h.log step ≡ o → shows_from h step o s ≡ false → IsElsewhere h step s
+elsewhere : (h : History) (step : Step) (s : ℕ) (o : Option ℕ) → acts_on step ≡ o → shows_from h step o s ≡ false → IsElsewhere h step s
 unfolding total
 elsewhere h step s (Some x) on free =
     let parts = or_parts (is_within h.nodes x s) (rests_under h (displaced_in h.nodes step x) s) free in
-    record { who = x; only = λ t other. about_none h.log step x t on other; free = parts.0; calm = parts.1 }
+    record { who = x; only = λ t other. about_none [] step x t on other; free = parts.0; calm = parts.1 }
 elsewhere h step s None on free =
     let x = suc (total h.nodes) in
     record {
       who = x;
-      only = λ t other. about_no_one h.log step t on;
+      only = λ t other. about_no_one [] step t on;
       free = absent_up (λ (n : Node). n.serial == x) (reverse h.nodes) s (absent_reverse (λ (n : Node). n.serial == x) h.nodes (absent_above x h.nodes (omega arith)));
-      calm = ap (λ b. rests_under h (cond b (sequenced (time_parent h.nodes x)) None) s) (no_start h.log step on);
+      calm = ap (λ b. rests_under h (cond b (sequenced (time_parent h.nodes x)) None) s) (no_start step on);
     }
 
 -- what may rest above an element in which no entry shows still may
 rests_stay : (ys : List Entry) (h : History) (ds : List Entry) (s : ℕ) → ParentsBefore (reverse h.nodes) → any_shows (up_to h ds) ys s ≡ false → (n : Node) → is_within h.nodes n.serial s ≡ true → may_rest (up_to h (h.diary ++ ys)) n ≡ may_rest h n
 rests_stay [] h ds s first free n within = ap (λ (zs : List Entry). may_rest (up_to h zs) n) (append-nil h.diary)
 rests_stay (y ∷ ys) h ds s first free n within =
-    let parts = or_parts (shows_from (up_to h ds) y.step (subject_of h.log y.step) s) (any_shows (up_to h ds) ys s) free in
-    let off = elsewhere (up_to h ds) y.step s (subject_of h.log y.step) refl parts.0 in
+    let parts = or_parts (shows_from (up_to h ds) y.step (acts_on y.step) s) (any_shows (up_to h ds) ys s) free in
+    let off = elsewhere (up_to h ds) y.step s (acts_on y.step) refl parts.0 in
     ap (λ (zs : List Entry). may_rest (up_to h zs) n) (sym (append_assoc h.diary (y ∷ []) ys))
     ∙ rests_stay ys (up_to h (h.diary ++ y ∷ [])) ds s first parts.1 n within
-    ∙ rest-then h first y off.who off.only n (apart_above h.nodes first off.who s n.serial off.free within)
+    ∙ rest-then (bare h) first y off.who off.only n (apart_above h.nodes first off.who s n.serial off.free within)
 
 module _ (h : History) (ds : List Entry) (s : ℕ) (stay : (n : Node) → is_within h.nodes n.serial s ≡ true → may_rest (up_to h ds) n ≡ may_rest h n) where
   one_stays : (n : Node) → (may_rest (up_to h ds) n && is_within h.nodes n.serial s) ≡ (may_rest h n && is_within h.nodes n.serial s)
@@ -354,11 +359,11 @@ view_all [] h first now i e here free = ap (λ (zs : List Entry). view_given (up
 view_all (y ∷ ys) h first now i e here free =
     let whole : List Entry = h.diary ++ y ∷ ys in
     let seam : whole ≡ (h.diary ++ y ∷ []) ++ ys = sym (append_assoc h.diary (y ∷ []) ys) in
-    let parts = or_parts (shows_from (up_to h whole) y.step (subject_of h.log y.step) e.serial) (any_shows (up_to h whole) ys e.serial) free in
-    let off = elsewhere h y.step e.serial (subject_of h.log y.step) refl (sym (from_stays h whole e.serial (rests_stay (y ∷ ys) h whole e.serial first free) y.step (subject_of h.log y.step)) ∙ parts.0) in
+    let parts = or_parts (shows_from (up_to h whole) y.step (acts_on y.step) e.serial) (any_shows (up_to h whole) ys e.serial) free in
+    let off = elsewhere h y.step e.serial (acts_on y.step) refl (sym (from_stays h whole e.serial (rests_stay (y ∷ ys) h whole e.serial first free) y.step (acts_on y.step)) ∙ parts.0) in
     ap (λ (zs : List Entry). view_given (up_to h zs) now i e) seam
     ∙ view_all ys (up_to h (h.diary ++ y ∷ [])) first now i e here (subst (λ (zs : List Entry). any_shows (up_to h zs) ys e.serial ≡ false) seam parts.1)
-    ∙ view_apart h first y off.who off.only e here off.free off.calm now i
+    ∙ view_apart (bare h) first y off.who off.only e here off.free off.calm now i
 
 pub views_stay : (h : History) (entries : List Entry) (now : ℤ) (e : Node) → ParentsBefore (reverse h.nodes) → node_at (elements h.nodes) e.serial ≡ Some e → any_shows (up_to h (h.diary ++ entries)) entries e.serial ≡ false → current_interval (up_to h (h.diary ++ entries)) now e.serial ≡ current_interval h now e.serial → view_at (up_to h (h.diary ++ entries)) now e ≡ view_at h now e
 views_stay h entries now e first here free same =

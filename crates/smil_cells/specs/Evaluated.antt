@@ -1,12 +1,15 @@
 -- Which elements are evaluated after entries, where that is counted.
-use Rattle.std.specs.Prelude.{◌≡◌, ℕ, nat_eq, List, [], ◌∷◌, drop, length, sum_by, pos, Bool, true, false, not, ◌&&◌, ◌||◌, ◌==◌, ◌⊎◌, Option, Some, None, is_some}
+use Rattle.std.specs.Prelude.{◌≡◌, ℕ, nat_eq, ℤ, List, [], ◌∷◌, drop, length, sum_by, pos, Bool, true, false, not, ◌&&◌, ◌||◌, ◌==◌, ◌⊎◌, Option, Some, None, is_some}
 use Rattle.std.specs.List.{IsDistinct, list_any}
+use Rattle.std.specs.Ordering.{int_eq}
 use Rattle.smil_model.specs.declared.diary.Entry.{Entry}
 use Rattle.smil_model.specs.declared.diary.LogEntry.{LogEntry}
 use Rattle.smil_model.specs.declared.diary.Step.{Step}
+use Rattle.smil_model.specs.declared.diary.Step.TheVariants.{Cut, Ended}
 use Rattle.smil_model.specs.declared.interval.Interval.{Interval}
 use Rattle.smil_model.specs.declared.document.Node.{Node}
-use Rattle.smil_model.specs.declared.document.Edge.TheVariants.{End}
+use Rattle.smil_model.specs.declared.times.Time.{Time}
+use Rattle.smil_model.specs.declared.times.Time.TheVariants.{At}
 use Rattle.smil_model.specs.document.Dependencies.{has_implicit_duration}
 use Rattle.smil_model.specs.document.Document.{elements, node_at, time_parent}
 use Rattle.smil_model.specs.document.Closure.{has}
@@ -14,7 +17,7 @@ use Rattle.smil_model.specs.reach.Reach.{key_of, reads, subject_of}
 use Rattle.smil_model.specs.interval.Current.{current_interval}
 use Rattle.smil_model.specs.happening.Resolution.{Progress, next_step}
 use Rattle.smil_laws.specs.Agreement.{course_on}
-use Rattle.smil_concern_laws.specs.Concerned.{is_concerned_through, moves}
+use Rattle.smil_concern_laws.specs.Concerned.{is_concerned_through}
 use Rattle.smil_cells.specs.CellsState.{CellsState, interval_at, progress_of}
 
 -- of the element that a step is on, the time parent, where its duration follows from its time
@@ -23,10 +26,21 @@ abbrev pub is_container : Option Node → ℕ → Bool
 is_container None s = false
 is_container (Some p) s = (p.serial == s) && has_implicit_duration p
 
--- a step may change the ends that a container takes of its element: it ends an interval of it,
--- or the element had none
+-- whether there is an interval, and with this end
+abbrev pub is_at : ℤ → Time → Bool
+is_at value (At time) = int_eq time value
+is_at value _ = false
+
+abbrev pub ends_at : ℤ → Option Interval → Bool
+ends_at value None = false
+ends_at value (Some i) = is_at value i.«end»
+
+-- a step may change the ends that a container takes of its element: it ends or cuts an interval of
+-- it, but for an end that this has already, or the element had none
 abbrev pub may_end : (ℕ → Option Interval) → Step → ℕ → Bool
-may_end before step x = moves End step || not (is_some (before x))
+may_end before (Ended who end') x = not (ends_at end' (before x))
+may_end before (Cut who) x = true
+may_end before step x = not (is_some (before x))
 
 -- the time parent of an element whose ends the step may change
 abbrev pub is_moved_container : List Node → (ℕ → Option Interval) → Step → ℕ → ℕ → Bool

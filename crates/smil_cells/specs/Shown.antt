@@ -4,8 +4,6 @@ use Rattle.std.specs.List.{list_any}
 use Rattle.smil_model.specs.declared.diary.Entry.{Entry}
 use Rattle.smil_model.specs.declared.diary.LogEntry.{LogEntry}
 use Rattle.smil_model.specs.declared.diary.Step.{Step}
-use Rattle.smil_model.specs.declared.document.Fill.{Fill}
-use Rattle.smil_model.specs.declared.document.Fill.TheVariants.{Freeze}
 use Rattle.smil_model.specs.declared.document.Node.{Node}
 use Rattle.smil_model.specs.document.Document.{elements, serials, time_parent, time_children, node_at, is_within}
 use Rattle.smil_model.specs.document.Defaults.{effective_fill}
@@ -13,13 +11,13 @@ use Rattle.smil_model.specs.document.Edits.{place_in}
 use Rattle.smil_model.specs.document.Closure.{has}
 use Rattle.smil_model.specs.diary.Diary.{History}
 use Rattle.smil_model.specs.diary.Plays.{last_finished}
-use Rattle.smil_model.specs.reach.Reach.{subject_of}
 use Rattle.smil_model.specs.happening.Resolution.{Progress, next_step}
 use Rattle.smil_laws.specs.Agreement.{course_on}
 use Rattle.smil_laws.specs.Seen.{starts}
 use Rattle.smil_graph.specs.Tables.{takes_turns}
+use Rattle.smil_past.specs.Makeups.{is_freeze}
 use Rattle.smil_cells.specs.CellsState.{CellsState, progress_of}
-use Rattle.smil_cells.specs.Evaluated.{intervals_by}
+use Rattle.smil_cells.specs.Evaluated.{acts_on, intervals_by}
 
 -- a seq or an excl, of whose children one plays at a time
 abbrev pub sequenced : Option Node → Option Node
@@ -31,10 +29,6 @@ abbrev pub displaced_in : List Node → Step → ℕ → Option Node
 displaced_in nodes step serial = if starts step then sequenced (time_parent nodes serial) else None
 
 -- ---- whose views a step may change, given the same intervals
-
-abbrev pub is_freeze : Fill → Bool
-is_freeze Freeze = true
-is_freeze _ = false
 
 -- whether an element may be frozen until it is displaced: it has finished an interval, and its fill
 -- freezes it
@@ -60,10 +54,11 @@ abbrev pub shows_from : History → Step → Option ℕ → ℕ → Bool
 shows_from h step None s = false
 shows_from h step (Some x) s = shows_in h step x s
 
--- whether one of the entries shows, by the history that ends with them
+-- whether one of the entries shows, by the history that ends with them; a logged one shows in no
+-- view
 abbrev pub any_shows : History → List Entry → ℕ → Bool
 any_shows h entries s =
-    list_any (λ (y : Entry). shows_from h y.step (subject_of h.log y.step) s) entries
+    list_any (λ (y : Entry). shows_from h y.step (acts_on y.step) s) entries
 
 -- ---- elements by their places
 

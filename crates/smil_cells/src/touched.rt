@@ -5,22 +5,23 @@ ghost use Rattle.smil_model.specs.declared.document.Node.{Node as AnyNode};
 ghost use Rattle.smil_model.specs.document.Document.{elements, is_excl_kind, is_seq_kind, is_within, node_at, serial_of, time_children};
 ghost use Rattle.smil_model.specs.diary.Lawful.{has_element};
 ghost use Rattle.smil_model.specs.diary.Plays.{last_finished};
-ghost use Rattle.smil_model.specs.reach.Reach.{subject_of};
 ghost use Rattle.smil_laws.specs.Seen.{starts as starts_in};
+ghost use Rattle.smil_graph.specs.Tables.{takes_turns};
+ghost use Rattle.smil_past.specs.Makeups.{is_freeze, keeps_children};
 ghost use Rattle.smil_past.specs.Past.{history_of};
-ghost use Rattle.smil_cells.specs.Shown.{ArePutWhere, any_rests, any_shows, displaced_in, is_freeze, may_rest, shows_from, shows_in};
+ghost use Rattle.smil_cells.specs.Evaluated.{acts_on};
+ghost use Rattle.smil_cells.specs.Shown.{ArePutWhere, any_rests, any_shows, displaced_in, may_rest, shows_from, shows_in};
 
 use super::order::put_range;
-use smil_instances::subject;
 use smil_model::{Fill, Kind, PlaceSet, Step};
 use smil_past::Past;
 use smil_tree::Tree;
 use std::alloc::AllocError;
 
 /// Puts the places of the elements whose views the entries from an index on may change, given the
-/// same intervals, and those of no other elements. Refused where memory runs out. It takes a step
-/// for each place that is put in, and for a begin or a resume in a seq or an excl one for each child
-/// of that.
+/// same intervals, and those of no other elements; a logged entry changes none. Refused where memory
+/// runs out. It takes a step for each place that is put in, and for a begin or a resume in a seq or
+/// an excl of whose children one freezes when it ends one for each child of that.
 pub fn touch(past: &Past, from: usize, touched: &mut PlaceSet) -> Result<(), AllocError>
     requires { from ≤ length past.now.diary }
     ensures { OnOk result (ArePutWhere past.now.document.nodes
@@ -35,17 +36,23 @@ pub fn touch(past: &Past, from: usize, touched: &mut PlaceSet) -> Result<(), All
 // Puts the places of the elements whose views a step may change.
 fn touch_step(past: &Past, step: Step, touched: &mut PlaceSet) -> Result<(), AllocError>
     ensures { OnOk result (ArePutWhere past.now.document.nodes
-        (shows_from (history_of past.now) step (subject_of past.now.log step)) touched.old
-        touched.new) }
+        (shows_from (history_of past.now) step (acts_on step)) touched.old touched.new) }
 {
-    match subject(past.log(), step) {
-        Some(who) => touch_element(past, step, who, touched),
-        None => Ok(()),
+    match step {
+        Step::Logged { .. } => Ok(()),
+        Step::Began { who, .. }
+        | Step::Repeated { who, .. }
+        | Step::Ended { who, .. }
+        | Step::Cut { who }
+        | Step::Paused { who }
+        | Step::Resumed { who }
+        | Step::Deferred { who, .. }
+        | Step::Passed { who, .. } => touch_element(past, step, who, touched),
     }
 }
 
-// Puts the places of the elements whose views a step of an element may change; a logged event may
-// be of a serial that no node has.
+// Puts the places of the elements whose views a step of an element may change; none for a serial
+// that no node has.
 fn touch_element(
     past: &Past,
     step: Step,
@@ -67,18 +74,31 @@ fn touch_element(
     }
 }
 
-// Puts the places of the children of a time parent that may be frozen, and of what is below these
+// Puts the places of the children of a seq or an excl that may be frozen, and of those below these,
 // in.
 fn touch_resting(past: &Past, parent: u32, touched: &mut PlaceSet) -> Result<(), AllocError>
+    requires { takes_turns (node_at (elements past.now.document.nodes) parent) ≡ true }
     ensures { OnOk result (ArePutWhere past.now.document.nodes
         (any_rests (history_of past.now) (time_children past.now.document.nodes parent))
         touched.old touched.new) }
 {
     past.possible();
+    if !keeps_children(past, parent) {
+        return Ok(());
+    }
     for child in past.tree().time_children(parent) {
         touch_where_resting(past, *child, touched)?;
     }
     Ok(())
+}
+
+// Whether an element is a seq or an excl of whose time children one freezes when it ends.
+fn keeps_children(past: &Past, who: u32) -> bool
+    requires { has_element past.now.document.nodes who ≡ true }
+    ensures { (e : AnyNode) → node_at (elements past.now.document.nodes) who ≡ Some e
+        → result ≡ keeps_children past.now.document.nodes e }
+{
+    past.makeup(who).keeps_children
 }
 
 // Puts the places of an element and of those below it in, where it may be frozen.
@@ -125,7 +145,8 @@ fn has_finished(past: &Past, who: u32) -> bool
 fn displaced(tree: &Tree, step: Step, who: u32) -> Option<u32>
     requires { IsSome (node_at tree.now.nodes who) }
     ensures value { result ≡ serial_of (displaced_in tree.now.nodes step who) }
-    ensures known { (parent : ℕ) → result ≡ Some parent → IsSome (node_at tree.now.nodes parent) }
+    ensures known { (parent : ℕ) → result ≡ Some parent
+        → takes_turns (node_at (elements tree.now.nodes) parent) ≡ true }
 {
     tree.valid();
     if !starts(step) {

@@ -1,10 +1,10 @@
 -- Trees of slots: which places stay decided where one changes, and what the first one has.
-use Rattle.std.proofs.Common.{◌≡◌, ◌≢◌, ◌∙◌, ap, sym, subst, refl, ℕ, zero, suc, ◌+◌, ◌*◌, ◌-◌, ◌/◌, ◌^◌, ◌<◌, ◌≤◌, List, ◌++◌, length, drop, take, replicate, get_or-set_other, get_or-set_same, set, arith, ◌⊎◌, inl, inr}
+use Rattle.std.proofs.Common.{◌≡◌, ◌≢◌, ◌∙◌, ap, sym, subst, refl, ℕ, zero, suc, ◌+◌, ◌*◌, ◌-◌, ◌/◌, ◌^◌, ◌<◌, ◌≤◌, List, [], ◌∷◌, ◌++◌, length, drop, take, replicate, get_or, get_or-set_other, get_or-set_same, set, arith, ◌⊎◌, inl, inr}
 use Rattle.std.specs.Prelude.{Option, None}
-use Rattle.std.proofs.Math.Seq.{drop-cons, take-add}
+use Rattle.std.proofs.Math.Seq.{drop-cons, take-add, take-set-lt}
 use Rattle.std.proofs.lemmas.Bool.{cases_eq, cases_lt}
-use Rattle.std.proofs.lemmas.List.{drop-append-le, drop-drop, drop-replicate, drop-set-add, drop-set-lt, get_or-take, length-replicate, length-take, take-set-le, take_all}
-use Rattle.smil_nodes.specs.Slots.{AreFull, IsBesides, IsDueTree, IsLeastBelow, below, earlier_of, least_number, slot_at}
+use Rattle.std.proofs.lemmas.List.{drop-append-le, drop-drop, drop-replicate, drop-set-add, drop-set-lt, get_or-take, length-drop, length-replicate, length-take, take-set-le, take_all}
+use Rattle.smil_nodes.specs.Slots.{AreFull, IsBesides, IsDueTree, IsLeastBelow, WasLeastBelow, below, earlier_of, least_number, slot_at}
 use Rattle.smil_nodes.proofs.LeastNumbers.{least_beside, least_of_both, swapped}
 
 -- ---- the decided
@@ -33,7 +33,7 @@ changed_slot places above place slot from decided p within besides =
     stays places place slot p (λ e. absurd (omega (arith, e, from, within))) besides (decided p within)
 
 -- the place that one stands below, and others
-other_than : (place p : ℕ) → 0 < place → p ≢ (place - 1) / 8 → IsBesides place p
+pub other_than : (place p : ℕ) → 0 < place → p ≢ (place - 1) / 8 → IsBesides place p
 other_than place p some differs = by_order (cases_lt (8 * p) place)
   where
     by_order : (8 * p < place) ⊎ (place ≤ 8 * p) → IsBesides place p
@@ -55,6 +55,47 @@ decided_more places above place up slot some up_is known is others p within besi
     by_case (inr differs) =
         stays places up slot p differs besides
         (others p within (other_than place p some (λ e. differs (e ∙ sym up_is))))
+
+-- ---- what a place had
+
+drop_none : {A : Type 0} (xs : List A) → drop 0 xs ≡ xs
+drop_none [] = refl
+drop_none (x ∷ xs) = refl
+
+-- a list with another value at a place
+split_set : (xs : List (Option ℕ)) (i : ℕ) (slot : Option ℕ) → i < length xs → set xs i slot ≡ take i xs ++ slot ∷ drop (suc i) xs
+split_set [] i slot within = absurd (omega (arith, within))
+split_set (x ∷ xs) zero slot within = ap (λ ys. slot ∷ ys) (sym (drop_none xs))
+split_set (x ∷ xs) (suc i) slot within = ap (λ ys. x ∷ ys) (split_set xs i slot (omega (arith, within)))
+
+split_at : (xs : List (Option ℕ)) (i : ℕ) → i < length xs → xs ≡ take i xs ++ get_or xs i None ∷ drop (suc i) xs
+split_at [] i within = absurd (omega (arith, within))
+split_at (x ∷ xs) zero within = ap (λ ys. x ∷ ys) (sym (drop_none xs))
+split_at (x ∷ xs) (suc i) within = ap (λ ys. x ∷ ys) (split_at xs i (omega (arith, within)))
+
+-- the place above one that changes had the least number of those below it
+pub was_least : (places : List (Option ℕ)) (place up : ℕ) (slot : Option ℕ) → 0 < place → up ≡ (place - 1) / 8 → place < length places → IsLeastBelow places up → WasLeastBelow (set places place slot) up slot
+was_least places place up slot some is known decided =
+    let off = place - (8 * up + 1) in
+    let at : place ≡ 8 * up + 1 + off = omega (arith, some, is) in
+    let small : off < 8 = omega (arith, some, is) in
+    let rest = drop (8 * up + 1) places in
+    let within : off < length (take 8 rest) = omega (arith, length-take 8 rest, length-drop (8 * up + 1) places, at, known, small) in
+    let other : up ≢ place = (λ e. absurd (omega (arith, e, some, is))) in
+    record {
+      before = get_or (below places up) off None;
+      front = take off (below places up);
+      back = drop (suc off) (below places up);
+      now =
+          ap (λ (q : ℕ). take 8 (drop (8 * up + 1) (set places q slot))) at
+          ∙ ap (take 8) (drop-set-add (8 * up + 1) places off slot)
+          ∙ take-set-lt 8 rest off slot small
+          ∙ split_set (below places up) off slot within;
+      was =
+          get_or-set_other places place up slot None other
+          ∙ decided
+          ∙ ap least_number (split_at (below places up) off within);
+    }
 
 -- ---- slots without numbers
 

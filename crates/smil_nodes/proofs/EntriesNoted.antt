@@ -7,7 +7,6 @@ use Rattle.smil_model.specs.declared.diary.Entry.{Entry}
 use Rattle.smil_model.specs.declared.diary.LogEntry.{LogEntry}
 use Rattle.smil_model.specs.declared.diary.Step.{Step}
 use Rattle.smil_model.specs.declared.diary.Step.TheVariants.{Began, Repeated, Ended, Cut, Paused, Resumed, Deferred, Passed, Logged}
-use Rattle.smil_model.specs.declared.document.Edge.TheVariants.{End}
 use Rattle.smil_model.specs.declared.document.Node.{Node}
 use Rattle.smil_model.specs.declared.interval.Interval.{Interval}
 use Rattle.smil_model.specs.document.Dependencies.{has_implicit_duration}
@@ -16,15 +15,54 @@ use Rattle.smil_model.specs.document.Valid.{IsDistinct}
 use Rattle.smil_model.specs.reach.Reach.{key_of, reads, reads_node, subject_of}
 use Rattle.smil_laws.specs.Touched.{is_touched, is_touched_by, is_touched_from, is_touched_through}
 use Rattle.smil_laws.proofs.ReachClosed.{found_any}
-use Rattle.smil_concern_laws.specs.Concerned.{follows, is_concerned_by, is_concerned_through, moves}
+use Rattle.smil_concern_laws.specs.Concerned.{follows, is_concerned_by, is_concerned_through}
 use Rattle.smil_concern_laws.proofs.ConcernedTouched.{concerned_touched}
 use Rattle.smil_past.proofs.ElementPlaces.{parent_found}
 use Rattle.smil_past.proofs.KnownNodes.{known_node}
 use Rattle.smil_graph.proofs.GraphAnswers.{element_at, only_element}
 use Rattle.smil_laws.proofs.RoundsRest.{find-serial}
-use Rattle.smil_cells.specs.Evaluated.{acts_on, is_container, is_container_of, is_moved_container, is_noted_at, is_noted_by, may_end}
-use Rattle.smil_nodes.proofs.EndsStay.{EndsNothing, NoneEnds, is_acted_by, is_acted_on}
+use Rattle.smil_cells.specs.Evaluated.{acts_on, ends_at, is_container, is_container_of, is_moved_container, is_noted_at, is_noted_by, may_end}
+use Rattle.smil_nodes.proofs.EndsStay.{NoneEnds, is_acted_by, is_acted_on}
 use Rattle.smil_nodes.proofs.RanksListed.{acted_noted, any_known, own_or_below}
+
+-- ---- the container of an element
+
+-- its duration follows from the element
+pub record IsContainer (nodes : List Node) (x s : ℕ) : Type 0 where
+  pub node : Node
+  pub own : node.serial ≡ s
+  pub above : time_parent nodes x ≡ Some node
+  pub found : node_at (elements nodes) node.serial ≡ Some node
+  pub implicit : has_implicit_duration node ≡ true
+  pub fed : list_any (λ (c : Node). (c.serial == x) && is_time_child nodes node.serial c) nodes ≡ true
+
+-- an element is among the time children of its time parent
+pub child_fed : (nodes : List Node) → IsDistinct nodes → (x parent : ℕ) → is_some (node_at (elements nodes) x) ≡ true → has_serial parent (time_parent nodes x) ≡ true → list_any (λ (c : Node). (c.serial == x) && is_time_child nodes parent c) nodes ≡ true
+child_fed nodes distinct x parent known under = by_node (node_at nodes x) refl (ap is_some (sym (element_at nodes x distinct)) ∙ known)
+  where
+    by_kind : (n : Node) → node_at nodes x ≡ Some n → (t : Bool) → is_element n ≡ t → is_some (cond t (Some n) None) ≡ true → list_any (λ (c : Node). (c.serial == x) && is_time_child nodes parent c) nodes ≡ true
+    by_kind n at true q r = found_any x (is_time_child nodes parent) nodes n at (and_from _ _ q (ap (λ w. has_serial parent (time_parent nodes w)) (find-serial x nodes n at) ∙ under))
+    by_kind n at false q r = cc
+
+    by_node : (o : Option Node) → node_at nodes x ≡ o → is_some (only_element o) ≡ true → list_any (λ (c : Node). (c.serial == x) && is_time_child nodes parent c) nodes ≡ true
+    by_node None at r = cc
+    by_node (Some n) at r = by_kind n at (is_element n) refl r
+
+pub container_is : (nodes : List Node) → IsDistinct nodes → (x s : ℕ) → is_some (node_at (elements nodes) x) ≡ true → is_container (time_parent nodes x) s ≡ true → IsContainer nodes x s
+container_is nodes distinct x s known q = by (time_parent nodes x) refl q
+  where
+    by : (o : Option Node) → time_parent nodes x ≡ o → is_container o s ≡ true → IsContainer nodes x s
+    by None at r = cc
+    by (Some p) at r =
+        let parts = and_parts (p.serial == s) (has_implicit_duration p) r in
+        record {
+          node = p;
+          own = eqb-true p.serial s parts.0;
+          above = at;
+          found = parent_found nodes x p distinct (known_node nodes x known) at;
+          implicit = parts.1;
+          fed = child_fed nodes distinct x p.serial known (ap (has_serial p.serial) at ∙ eq-eqb p.serial p.serial refl);
+        }
 
 module _ (nodes : List Node) (distinct : IsDistinct nodes) (log : List LogEntry) (before : ℕ → Option Interval) where
   abbrev reads_below : ℕ → ℕ → Bool
@@ -79,8 +117,8 @@ module _ (nodes : List Node) (distinct : IsDistinct nodes) (log : List LogEntry)
             and_from _ _ q (ap has_implicit_duration one ∙ implicit)
 
     -- one entry that does not list the element acts on nothing that the child is within, or on the
-    -- child without ending an interval of it, which then had one
-    unnoted_child : (y : Entry) → is_noted_at nodes log before e.serial y ≡ false → (is_acted_on nodes (acts_on y.step) s ≡ false) ⊎ ((acts_on y.step ≡ Some s) × (moves End y.step ≡ false) × (is_some (before s) ≡ true))
+    -- child without changing its ends
+    unnoted_child : (y : Entry) → is_noted_at nodes log before e.serial y ≡ false → (is_acted_on nodes (acts_on y.step) s ≡ false) ⊎ ((acts_on y.step ≡ Some s) × (may_end before y.step s ≡ false))
     unnoted_child y free = by (acts_on y.step) refl
       where
         listed : (a b c d f : Bool) → (a && (((b || c) || d) || f)) ≡ false → a ≡ true → (c ≡ false) × (f ≡ false)
@@ -90,17 +128,15 @@ module _ (nodes : List Node) (distinct : IsDistinct nodes) (log : List LogEntry)
         listed true false false false f q r = (refl, q)
         listed false b c d f q r = cc
 
-        none_ends : (a b c : Bool) → ((a || not b) && c) ≡ false → c ≡ true → (a ≡ false) × (b ≡ true)
-        none_ends true b true q r = cc
-        none_ends false true true q r = (refl, refl)
-        none_ends false false true q r = cc
-        none_ends a b false q r = cc
+        none_ends : (a c : Bool) → (a && c) ≡ false → c ≡ true → a ≡ false
+        none_ends true true q r = cc
+        none_ends false true q r = refl
+        none_ends a false q r = cc
 
-        by_case : (x : ℕ) → acts_on y.step ≡ Some x → (reads_below x e.serial ≡ false) × (is_moved_container nodes before y.step x e.serial ≡ false) → (s == x ≡ true) ⊎ (is_below nodes x s ≡ true) → (acts_on y.step ≡ Some s) × (moves End y.step ≡ false) × (is_some (before s) ≡ true)
+        by_case : (x : ℕ) → acts_on y.step ≡ Some x → (reads_below x e.serial ≡ false) × (is_moved_container nodes before y.step x e.serial ≡ false) → (s == x ≡ true) ⊎ (is_below nodes x s ≡ true) → (acts_on y.step ≡ Some s) × (may_end before y.step s ≡ false)
         by_case x on out (inl own) =
             let one : s ≡ x = eqb-true s x own in
-            let ends = none_ends (moves End y.step) (is_some (before s)) (is_container (time_parent nodes s) e.serial) (ap (λ z. is_moved_container nodes before y.step z e.serial) one ∙ out.1) held in
-            (on ∙ ap Some (sym one), ends.0, ends.1)
+            (on ∙ ap Some (sym one), none_ends (may_end before y.step s) (is_container (time_parent nodes s) e.serial) (ap (λ z. is_moved_container nodes before y.step z e.serial) one ∙ out.1) held)
         by_case x on out (inr below) =
             let never : false ≡ true =
             sym out.0
@@ -108,18 +144,18 @@ module _ (nodes : List Node) (distinct : IsDistinct nodes) (log : List LogEntry)
             (λ n same. and_from _ _ (ap (is_below nodes x) same ∙ below) (ap (λ z. reads nodes z e.serial) same ∙ child_read)) in
             cc
 
-        by_within : (x : ℕ) → acts_on y.step ≡ Some x → is_some (node_at (elements nodes) x) ≡ true → (w : Bool) → is_within nodes x s ≡ w → (w ≡ false) ⊎ ((Some x ≡ Some s) × (moves End y.step ≡ false) × (is_some (before s) ≡ true))
+        by_within : (x : ℕ) → acts_on y.step ≡ Some x → is_some (node_at (elements nodes) x) ≡ true → (w : Bool) → is_within nodes x s ≡ w → (w ≡ false) ⊎ ((Some x ≡ Some s) × (may_end before y.step s ≡ false))
         by_within x on found false q = inl refl
         by_within x on found true q =
             let out = listed (is_some (node_at (elements nodes) x)) (is_within nodes x e.serial) (reads_below x e.serial) (is_mover x y.step e.serial) (is_moved_container nodes before y.step x e.serial) (sym (acted_noted nodes log before x e.serial y.step on) ∙ free) found in
             let own = by_case x on out (or_cases (s == x) (is_below nodes x s) (sym (own_or_below nodes distinct x s (known_node nodes s known)) ∙ q)) in
-            inr (sym on ∙ own.0, own.1, own.2)
+            inr (sym on ∙ own.0, own.1)
 
-        by : (o : Option ℕ) → acts_on y.step ≡ o → (is_acted_on nodes o s ≡ false) ⊎ ((o ≡ Some s) × (moves End y.step ≡ false) × (is_some (before s) ≡ true))
+        by : (o : Option ℕ) → acts_on y.step ≡ o → (is_acted_on nodes o s ≡ false) ⊎ ((o ≡ Some s) × (may_end before y.step s ≡ false))
         by None on = inl refl
         by (Some x) on = by_found (is_some (node_at (elements nodes) x)) refl
           where
-            by_found : (t : Bool) → is_some (node_at (elements nodes) x) ≡ t → ((t && is_within nodes x s) ≡ false) ⊎ ((Some x ≡ Some s) × (moves End y.step ≡ false) × (is_some (before s) ≡ true))
+            by_found : (t : Bool) → is_some (node_at (elements nodes) x) ≡ t → ((t && is_within nodes x s) ≡ false) ⊎ ((Some x ≡ Some s) × (may_end before y.step s ≡ false))
             by_found true found = by_within x on found (is_within nodes x s) refl
             by_found false found = inl refl
 
@@ -130,20 +166,21 @@ module _ (nodes : List Node) (distinct : IsDistinct nodes) (log : List LogEntry)
         let both = or_parts (is_noted_at nodes log before e.serial y) (is_noted_by nodes log before ys e.serial) free in
         ap (λ t. t || is_acted_by nodes ys s) (apart (unnoted_child y both.0)) ∙ unnoted_child_all ys none both.1
       where
-        apart : (is_acted_on nodes (acts_on y.step) s ≡ false) ⊎ ((acts_on y.step ≡ Some s) × (moves End y.step ≡ false) × (is_some (before s) ≡ true)) → is_acted_on nodes (acts_on y.step) s ≡ false
-        apart (inl q) = q
-        apart (inr own) = let never : is_some {T = Interval} None ≡ true = ap is_some (sym none) ∙ own.2 in cc
+        none_may_end : (step : Step) → may_end before step s ≡ true
+        none_may_end (Ended who end') = ap (λ o. not (ends_at end' o)) none
+        none_may_end (Cut who) = refl
+        none_may_end _ = ap (λ o. not (is_some o)) none
 
-    -- where it had one, nothing ends an interval of it
-    pub unended_child_all : (ys : List Entry) → is_noted_by nodes log before ys e.serial ≡ false → NoneEnds nodes s ys
+        apart : (is_acted_on nodes (acts_on y.step) s ≡ false) ⊎ ((acts_on y.step ≡ Some s) × (may_end before y.step s ≡ false)) → is_acted_on nodes (acts_on y.step) s ≡ false
+        apart (inl q) = q
+        apart (inr own) = let never : true ≡ false = sym (none_may_end y.step) ∙ own.1 in cc
+
+    -- where it had one, nothing changes its ends
+    pub unended_child_all : (ys : List Entry) → is_noted_by nodes log before ys e.serial ≡ false → NoneEnds nodes before s ys
     unended_child_all [] free = tt
     unended_child_all (y ∷ ys) free =
         let both = or_parts (is_noted_at nodes log before e.serial y) (is_noted_by nodes log before ys e.serial) free in
-        (unended (unnoted_child y both.0), unended_child_all ys both.1)
-      where
-        unended : (is_acted_on nodes (acts_on y.step) s ≡ false) ⊎ ((acts_on y.step ≡ Some s) × (moves End y.step ≡ false) × (is_some (before s) ≡ true)) → EndsNothing nodes s y
-        unended (inl q) = inl q
-        unended (inr own) = inr (own.0, own.1)
+        (unnoted_child y both.0, unended_child_all ys both.1)
 
   -- ---- all that is listed
 
@@ -160,29 +197,12 @@ module _ (nodes : List Node) (distinct : IsDistinct nodes) (log : List LogEntry)
   acted_touched x s (Logged place) on = cc
 
   container_touched : (x s : ℕ) → is_some (node_at (elements nodes) x) ≡ true → is_container (time_parent nodes x) s ≡ true → is_touched nodes x s ≡ true
-  container_touched x s known q = by (time_parent nodes x) refl q
-    where
-      by : (o : Option Node) → time_parent nodes x ≡ o → is_container o s ≡ true → is_touched nodes x s ≡ true
-      by None at r = cc
-      by (Some p) at r =
-          let parts = and_parts (p.serial == s) (has_implicit_duration p) r in
-          let found = parent_found nodes x p distinct (known_node nodes x known) at in
-          let child : has_serial p.serial (time_parent nodes x) ≡ true = ap (has_serial p.serial) at ∙ eq-eqb p.serial p.serial refl in
-          let fed : list_any (λ (c : Node). (c.serial == x) && is_time_child nodes p.serial c) nodes ≡ true = child_any x p.serial known child in
-          let reading : reads nodes x s ≡ true = subst (λ z. reads nodes x z ≡ true) (eqb-true p.serial s parts.0) (found_any p.serial (reads_node nodes x) (elements nodes) p found (or_left _ _ (or_left _ _ (or_left _ _ (and_from _ _ parts.1 fed))))) in
-          let within : is_within nodes x x ≡ true = own_or_below nodes distinct x x (known_node nodes x known) ∙ or_left _ _ (eq-eqb x x refl) in
-          or_right _ _ (any_known (λ (b : Node). is_within nodes x b.serial && reads nodes b.serial s) (elements nodes) x known (λ m same. and_from _ _ (ap (is_within nodes x) same ∙ within) (ap (λ z. reads nodes z s) same ∙ reading)))
-        where
-          child_any : (z parent : ℕ) → is_some (node_at (elements nodes) z) ≡ true → has_serial parent (time_parent nodes z) ≡ true → list_any (λ (c : Node). (c.serial == z) && is_time_child nodes parent c) nodes ≡ true
-          child_any z parent k h = by_node (node_at nodes z) refl (ap is_some (sym (element_at nodes z distinct)) ∙ k)
-            where
-              by_kind : (n : Node) → node_at nodes z ≡ Some n → (t : Bool) → is_element n ≡ t → is_some (cond t (Some n) None) ≡ true → list_any (λ (c : Node). (c.serial == z) && is_time_child nodes parent c) nodes ≡ true
-              by_kind n at true q r = found_any z (is_time_child nodes parent) nodes n at (and_from _ _ q (ap (λ w. has_serial parent (time_parent nodes w)) (find-serial z nodes n at) ∙ h))
-              by_kind n at false q r = cc
-
-              by_node : (o : Option Node) → node_at nodes z ≡ o → is_some (only_element o) ≡ true → list_any (λ (c : Node). (c.serial == z) && is_time_child nodes parent c) nodes ≡ true
-              by_node None at r = cc
-              by_node (Some n) at r = by_kind n at (is_element n) refl r
+  container_touched x s known q =
+      let holds = container_is nodes distinct x s known q in
+      let p = holds.node in
+      let reading : reads nodes x s ≡ true = subst (λ z. reads nodes x z ≡ true) holds.own (found_any p.serial (reads_node nodes x) (elements nodes) p holds.found (or_left _ _ (or_left _ _ (or_left _ _ (and_from _ _ holds.implicit holds.fed))))) in
+      let within : is_within nodes x x ≡ true = own_or_below nodes distinct x x (known_node nodes x known) ∙ or_left _ _ (eq-eqb x x refl) in
+      or_right _ _ (any_known (λ (b : Node). is_within nodes x b.serial && reads nodes b.serial s) (elements nodes) x known (λ m same. and_from _ _ (ap (is_within nodes x) same ∙ within) (ap (λ z. reads nodes z s) same ∙ reading)))
 
   one_touched : (s : ℕ) (y : Entry) → is_noted_at nodes log before s y ≡ true → is_touched_through nodes (key_of log y.step) (subject_of log y.step) s ≡ true
   one_touched s y q = by_case (or_cases (is_concerned_through nodes log (key_of log y.step) (subject_of log y.step) y.step s) (is_container_of nodes before y.step (acts_on y.step) s) q)

@@ -17,11 +17,11 @@ use Rattle.smil_rounds.specs.declared.current_rows.CurrentRow.{CurrentRow}
 use Rattle.smil_rounds.specs.Current.{interval_in}
 use Rattle.smil_rounds.specs.Round.{IsRowEvaluated}
 use Rattle.smil_cells.specs.Evaluated.{AreChanged, IsDue, is_noted_by}
-use Rattle.smil_nodes.specs.Work.{HasSame, IsBelow, IsCounted, is_later_reader}
+use Rattle.smil_nodes.specs.Work.{HasSame, IsBelow, IsCounted}
 use Rattle.smil_nodes.specs.Agenda.{IsLeastTaken}
 use Rattle.smil_cells.proofs.DistinctElements.{one_place}
 use Rattle.smil_nodes.proofs.ElementRanks.{element_of}
-use Rattle.smil_nodes.proofs.IntervalsApart.{is_reader}
+use Rattle.smil_nodes.proofs.IntervalsApart.{IsLaterReader}
 
 each_has : (P : ℕ → Type 0) (xs : List ℕ) → ((x : ℕ) → has xs x ≡ true → P x) → AllByRecursion P xs
 each_has P [] f = tt
@@ -50,7 +50,7 @@ module _ (h : History) (moment : ℤ) (nodes : List Node) (log : List LogEntry) 
   module _ (old : List ℕ) (before after : List CurrentRow) (steps rank who : ℕ) (is : IsGraphOrder nodes order) (apart : IsDistinct nat_eq order) (mid : List ℕ) (lt : rank < length order) (at : get_or order rank 0 ≡ who) (off : IsLeastTaken old rank mid) (others : (s : ℕ) → who == s ≡ false → interval_in after s ≡ interval_in before s) (so_far : IsCounted h moment nodes log entries order (has old) first before start steps) where
     -- a rank is listed that was, or that of a later reader where the interval changed
     abbrev IsLaterListed : ℕ → Type 0
-    IsLaterListed r = (has mid r ≡ true) ⊎ ((is_later_reader nodes order rank who r ≡ true) × (HasSame who before after → ⊥))
+    IsLaterListed r = (has mid r ≡ true) ⊎ (IsLaterReader nodes order rank who r × (HasSame who before after → ⊥))
 
     who_reached : in_reaches nodes log entries who ≡ true
     who_reached = ap (in_reaches nodes log entries) (sym at) ∙ so_far.listed_reached rank off.member
@@ -77,16 +77,15 @@ module _ (h : History) (moment : ℤ) (nodes : List Node) (log : List LogEntry) 
             differs : r ≡ rank → ⊥
             differs same = let never : true ≡ false = sym (eq-eqb r rank same) ∙ e in cc
 
-    reader_reached : (r : ℕ) → is_later_reader nodes order rank who r ≡ true → in_reaches nodes log entries (get_or order r 0) ≡ true
-    reader_reached r q =
-        let reader = is_reader nodes order rank who r q in
+    reader_reached : (r : ℕ) → IsLaterReader nodes order rank who r → in_reaches nodes log entries (get_or order r 0) ≡ true
+    reader_reached r reader =
         let at = element_of nodes order r is reader.within in
         ap (in_reaches nodes log entries) (sym at.1)
         ∙ (reaches_hold nodes log entries).readers who at.0 at.2 who_reached (ap (reads nodes who) at.1 ∙ reader.reading)
 
     listed_above : (r : ℕ) → IsLaterListed r → (suc rank ≤ r) × (r < length order)
     listed_above r (inl q) = let was = mid_above r q in (was.0, (so_far.above r was.1).1)
-    listed_above r (inr q) = let reader = is_reader nodes order rank who r q.0 in (omega (arith, reader.above), reader.within)
+    listed_above r (inr q) = let above : rank < r = (q.0).above in (omega (arith, above), (q.0).within)
 
     -- it had been its first interval until now
     first_until : interval_in before who ≡ interval_in first who
@@ -173,4 +172,4 @@ module _ (h : History) (moment : ℤ) (nodes : List Node) (log : List LogEntry) 
         is_due : (r : ℕ) → IsLaterListed r → IsDue nodes log entries (interval_in first) (interval_in after) (get_or order r 0)
         is_due r (inl q) = still_due (get_or order r 0) (so_far.listed_due r (mid_above r q).1)
         is_due r (inr q) =
-            inr (who, (is_reader nodes order rank who r q.0).reading, λ same. q.1 (same ∙ sym first_until))
+            inr (who, (q.0).reading, λ same. q.1 (same ∙ sym first_until))

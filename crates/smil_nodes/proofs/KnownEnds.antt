@@ -1,24 +1,27 @@
 -- The ends of time children are right while elements are evaluated.
 use Rattle.std.proofs.Common.{◌≡◌, refl, sym, ◌∙◌, ap, subst, ℕ, zero, suc, ◌<◌, ◌≤◌, List, [], ◌∷◌, length, get_or, map, arith, Option, Some, None, Bool, true, false, ◌⊎◌, inl, inr}
-use Rattle.std.specs.Prelude.{◌==◌, ◌++◌, ◌+◌, nat_eq, slice_get, slice_index_or, drop}
-use Rattle.std.specs.List.{IsDistinct as IsApart, position}
+use Rattle.std.specs.Prelude.{◌&&◌, ◌==◌, ◌+◌, is_some, nat_eq, slice_get, slice_index_or}
+use Rattle.std.specs.List.{list_any}
 use Rattle.std.proofs.lemmas.Bool.{eq-eqb, eqb-true, eqb-false}
 use Rattle.std.proofs.lemmas.List.{length-map}
 use Rattle.smil_model.specs.declared.interval.ChildEnd.{ChildEnd}
 use Rattle.smil_model.specs.declared.interval.Interval.{Interval}
+use Rattle.smil_model.specs.declared.times.Time.{Time}
 use Rattle.smil_model.specs.declared.document.Node.{Node}
-use Rattle.smil_model.specs.document.Document.{elements, node_at, serial_of, time_children, time_parent}
+use Rattle.smil_model.specs.document.Document.{elements, has_serial, is_time_child, node_at, serial_of, time_children, time_parent}
 use Rattle.smil_model.specs.document.Dependencies.{has_implicit_duration}
 use Rattle.smil_model.specs.document.Valid.{IsDistinct}
 use Rattle.smil_model.specs.document.Closure.{has}
-use Rattle.smil_model.specs.diary.Diary.{History, up_to}
+use Rattle.smil_model.specs.diary.Diary.{History}
 use Rattle.smil_model.specs.interval.Current.{child_end}
-use Rattle.smil_laws.specs.Edited.{IsOrdered}
 use Rattle.smil_laws.proofs.RoundsRest.{find-serial}
+use Rattle.smil_concern_laws.specs.Unconcerned.{SameEnds}
 use Rattle.smil_graph.specs.Graph.{IsGraphOrder}
+use Rattle.smil_graph.proofs.LinksAreDependencies.{any_filter, any_there}
 use Rattle.smil_element.specs.declared.endings.Ending.{Ending}
 use Rattle.smil_element.specs.Endings.{ending_by}
-use Rattle.smil_past.specs.Past.{MarkedHistory, front, history_of}
+use Rattle.smil_past.proofs.ElementPlaces.{parent_found}
+use Rattle.smil_past.proofs.KnownNodes.{known_node}
 use Rattle.smil_rounds.specs.declared.current_rows.CurrentRow.{CurrentRow}
 use Rattle.smil_rounds.specs.Current.{interval_in}
 use Rattle.smil_rounds.specs.Round.{AreOfElements}
@@ -27,15 +30,13 @@ use Rattle.smil_rounds.proofs.RowEvaluated.{elements_differ}
 use Rattle.smil_nodes.specs.declared.endings.Home.{Home}
 use Rattle.smil_nodes.specs.Agenda.{IsLeastTaken}
 use Rattle.smil_nodes.specs.Endings.{KeptEnds, AreHomes, AreKnown, HasHome, IsEnded, KnowsEnds, anyone, home_at, named_end, named_ends, names_of, nobody, put_among, put_ending, put_home}
-use Rattle.smil_nodes.specs.Work.{IsBelow, IsUnlisted}
+use Rattle.smil_nodes.specs.Work.{HasKeptEnding, IsBelow, IsUnlisted}
 use Rattle.smil_nodes.proofs.ChildEndsPut.{among_names, among_own, among_stays, names_in, set_own}
 use Rattle.smil_nodes.proofs.TimeChildPlaces.{child_below, family, one_child, rank_of}
 use Rattle.smil_nodes.proofs.EndingPlaces.{home_each, ends_at}
-use Rattle.smil_cells.specs.Evaluated.{is_noted_by}
-use Rattle.smil_nodes.proofs.EntriesNoted.{unnoted_apart_all}
-use Rattle.smil_nodes.proofs.WholeHistory.{front_whole}
-use Rattle.smil_nodes.proofs.ElementRanks.{found_place}
-use Rattle.smil_nodes.proofs.EndsStay.{all_done, end_by_interval, same_end}
+use Rattle.smil_nodes.proofs.EntriesNoted.{child_fed}
+use Rattle.smil_nodes.proofs.EndsStay.{end_by_interval}
+use Rattle.smil_nodes.proofs.RanksListed.{any_known}
 
 -- ---- lists of ends
 
@@ -154,7 +155,7 @@ module _ (h : History) (who : ℕ) (before after : ℕ → Option Interval) (kep
                 cc
 
   -- all that were right still are, and that of the element besides
-  pub known_next : (old test : ℕ → Type 0) → ((s : ℕ) → who == s ≡ false → test s → old s) → AreKnown h before old kept → AreKnown h after test (put_ending kept place ending)
+  pub known_next : (old test : ℕ → Type 0) → ((c : Node) → node_at (elements h.nodes) c.serial ≡ Some c → who == c.serial ≡ false → test c.serial → old c.serial) → AreKnown h before old kept → AreKnown h after test (put_ending kept place ending)
   known_next old test was are = record {
     homes = are.homes;
     names = names_put (home_at kept.homes place) ∙ are.names;
@@ -166,10 +167,10 @@ module _ (h : History) (who : ℕ) (before after : ℕ → Option Interval) (kep
           own_right are.names p k e c at_e implicit at_c (home_at kept.homes place) (home_each h.nodes (elements h.nodes) kept.homes place element are.homes here) (eqb-true who c.serial q)
       by_test p k e c at_e implicit at_c passes false q =
           other_right are.names p k e c at_e implicit at_c (home_at kept.homes place) (home_each h.nodes (elements h.nodes) kept.homes place element are.homes here) q
-          (are.right p k e c at_e implicit at_c (was c.serial q passes))
+          (are.right p k e c at_e implicit at_c (was c (family h.nodes e.serial k c distinct at_c).known q passes))
 
 -- an element was evaluated, and its ending put
-pub known_ended : (h : History) (who : ℕ) (before after : List CurrentRow) (kept new : KeptEnds) (old test : ℕ → Type 0) → IsDistinct h.nodes → ((s : ℕ) → who == s ≡ false → interval_in after s ≡ interval_in before s) → IsEnded h who after kept new → ((s : ℕ) → who == s ≡ false → test s → old s) → AreKnown h (interval_in before) old kept → AreKnown h (interval_in after) test new
+pub known_ended : (h : History) (who : ℕ) (before after : List CurrentRow) (kept new : KeptEnds) (old test : ℕ → Type 0) → IsDistinct h.nodes → ((s : ℕ) → who == s ≡ false → interval_in after s ≡ interval_in before s) → IsEnded h who after kept new → ((c : Node) → node_at (elements h.nodes) c.serial ≡ Some c → who == c.serial ≡ false → test c.serial → old c.serial) → AreKnown h (interval_in before) old kept → AreKnown h (interval_in after) test new
 known_ended h who before after kept new old test distinct others put was are =
     subst (AreKnown h (interval_in after) test) (sym put.after_is)
     (known_next h who (interval_in before) (interval_in after) kept put.place put.element distinct put.here put.is_who others old test was are)
@@ -208,10 +209,10 @@ module _ (h : History) (given : ℕ → Option Interval) (order : List ℕ) (kep
       are
 
   -- all, where no rank is listed
-  pub all_unlisted : (listed : ℕ → Bool) → ((r : ℕ) → listed r ≡ false) → AreKnown h given (IsUnlisted order listed) kept → AreKnown h given anyone kept
+  pub all_unlisted : (listed : ℕ → Bool) → ((r : ℕ) → listed r ≡ false) → AreKnown h given (HasKeptEnding h.nodes order listed) kept → AreKnown h given anyone kept
   all_unlisted listed none are =
-      known_weaker h given (IsUnlisted order listed) anyone kept distinct
-      (λ c here any. let at = rank_of h.nodes order c is here in record { rank = at.0; within = at.1; at = at.2; free = none at.0 })
+      known_weaker h given (HasKeptEnding h.nodes order listed) anyone kept distinct
+      (λ c here any. let at = rank_of h.nodes order c is here in inl (record { rank = at.0; within = at.1; at = at.2; free = none at.0 }))
       are
 
 -- an element that is evaluated next, in its order
@@ -260,19 +261,101 @@ children_unlisted nodes order old mid rank e distinct is lt at here implicit off
         let less : below.rank < rank = below.below in
         absurd (omega (arith, least, less))
 
--- ---- entries are taken in
+swap_and : (a b : Bool) → (a && b) ≡ (b && a)
+swap_and true true = refl
+swap_and true false = refl
+swap_and false true = refl
+swap_and false false = refl
 
-module _ (past : MarkedHistory) (from : ℕ) (before : ℕ → Option Interval) (order : List ℕ) (listed : ℕ → Bool) (ordered : IsOrdered past.document.nodes) (distinct : IsApart nat_eq order) (told : (s r : ℕ) → position (λ t. t == s) order ≡ Some r → listed r ≡ is_noted_by past.document.nodes past.log before (drop from past.diary) s) where
-  pub known_first : (given : ℕ → Option Interval) (kept : KeptEnds) → AreKnown (front past from) given anyone kept → AreKnown (history_of past) given (IsUnlisted order listed) kept
-  known_first given kept are = record {
-    homes = are.homes;
-    names = are.names;
-    right = λ p k e c at_e implicit at_c is.
-        let there = (family past.document.nodes e.serial k c ordered.distinct at_c).known in
-        let free = (sym (told c.serial is.rank (found_place c.serial order is.rank distinct is.within is.at)) ∙ is.free) in
-        are.right p k e c at_e implicit at_c tt
-        ∙ ap Some
-        (sym (same_end (front past from) (up_to (front past from) ((front past from).diary ++ drop from past.diary)) given e c
-        (all_done c (front past from) (drop from past.diary) ordered.first there (unnoted_apart_all past.document.nodes ordered.distinct past.log before c.serial (drop from past.diary) free)))
-        ∙ ap (λ x. child_end x given e c) (front_whole past from));
-  }
+-- an element that is among the time children of another has a place there
+child_at : (nodes : List Node) (parent who : ℕ) → list_any (λ (c : Node). (c.serial == who) && is_time_child nodes parent c) nodes ≡ true → (k : ℕ) × (c : Node) × (slice_get (time_children nodes parent) k ≡ Some c) × (c.serial ≡ who)
+child_at nodes parent who fed =
+    let found =
+    any_there (λ (c : Node). c.serial == who) (time_children nodes parent)
+    (any_filter (is_time_child nodes parent) (λ (c : Node). c.serial == who) nodes
+    ∙ ap (λ (f : Node → Bool). list_any f nodes) (λ i c. swap_and (is_time_child nodes parent c) (c.serial == who) i)
+    ∙ fed) in
+    (found.0, found.1, found.2, eqb-true (found.1).serial who found.3)
+
+child_place : (nodes : List Node) (parent : ℕ) (c : Node) → IsDistinct nodes → node_at (elements nodes) c.serial ≡ Some c → list_any (λ (n : Node). (n.serial == c.serial) && is_time_child nodes parent n) nodes ≡ true → (k : ℕ) × (slice_get (time_children nodes parent) k ≡ Some c)
+child_place nodes parent c distinct here fed =
+    let child = child_at nodes parent c.serial fed in
+    let both : Some child.1 ≡ Some c = sym (family nodes parent child.0 child.1 distinct child.2).known ∙ ap (node_at (elements nodes)) child.3 ∙ here in
+    (child.0, child.2 ∙ both)
+
+-- the element that another is among the time children of is its time parent
+pub parent_of : (nodes : List Node) → IsDistinct nodes → (who : ℕ) (e : Node) → node_at (elements nodes) e.serial ≡ Some e → list_any (λ (c : Node). (c.serial == who) && is_time_child nodes e.serial c) nodes ≡ true → time_parent nodes who ≡ Some e
+parent_of nodes distinct who e here fed =
+    let child = child_at nodes e.serial who fed in
+    let of = family nodes e.serial child.0 child.1 distinct child.2 in
+    by (time_parent nodes who) refl (ap (λ s. serial_of (time_parent nodes s)) (sym child.3) ∙ of.under) (ap is_some (ap (node_at (elements nodes)) (sym child.3) ∙ of.known))
+  where
+    by : (o : Option Node) → time_parent nodes who ≡ o → serial_of o ≡ Some e.serial → is_some (node_at (elements nodes) who) ≡ true → o ≡ Some e
+    by None at q known = cc
+    by (Some p) at q known =
+        let same : p.serial ≡ e.serial = cc in
+        sym (parent_found nodes who p distinct (known_node nodes who known) at) ∙ ap (node_at (elements nodes)) same ∙ here
+
+place_at : (nodes : List Node) (e : Node) → IsDistinct nodes → node_at (elements nodes) e.serial ≡ Some e → (p : ℕ) × (slice_get (elements nodes) p ≡ Some e)
+place_at nodes e distinct here =
+    let found = any_there (λ (n : Node). n.serial == e.serial) (elements nodes) (any_known (λ (n : Node). n.serial == e.serial) (elements nodes) e.serial (ap is_some here) (λ n same. eq-eqb n.serial e.serial same)) in
+    let both : Some found.1 ≡ Some e = sym (there_at (elements nodes) found.0 found.1 (elements_differ nodes distinct) found.2) ∙ ap (node_at (elements nodes)) (eqb-true (found.1).serial e.serial found.3) ∙ here in
+    (found.0, found.2 ∙ both)
+
+-- those that were, but for the element itself
+pub kept_next : (nodes : List Node) (order old mid : List ℕ) (rank who : ℕ) (new : ℕ → Bool) → IsDistinct nodes → IsGraphOrder nodes order → rank < length order → get_or order rank 0 ≡ who → IsLeastTaken old rank mid → ((r : ℕ) → new r ≡ false → (r ≡ rank) ⊎ (has old r ≡ false)) → (c : Node) → node_at (elements nodes) c.serial ≡ Some c → who == c.serial ≡ false → HasKeptEnding nodes order new c.serial → HasKeptEnding nodes order (has old) c.serial
+kept_next nodes order old mid rank who new distinct is lt at off left c here other (inl free) =
+    inl (unlisted_next order rank who c.serial (has old) new at left other free)
+kept_next nodes order old mid rank who new distinct is lt at off left c here other (inr under) = by_rank (left (under.unlisted).rank (under.unlisted).free)
+  where
+    e : Node
+    e = under.container
+
+    found : node_at (elements nodes) e.serial ≡ Some e
+    found = parent_found nodes c.serial e distinct (known_node nodes c.serial (ap is_some here)) under.above
+
+    fed : list_any (λ (n : Node). (n.serial == c.serial) && is_time_child nodes e.serial n) nodes ≡ true
+    fed = child_fed nodes distinct c.serial e.serial (ap is_some here) (ap (has_serial e.serial) under.above ∙ eq-eqb e.serial e.serial refl)
+
+    child : (k : ℕ) × (slice_get (time_children nodes e.serial) k ≡ Some c)
+    child = child_place nodes e.serial c distinct here fed
+
+    by_rank : ((under.unlisted).rank ≡ rank) ⊎ (has old (under.unlisted).rank ≡ false) → HasKeptEnding nodes order (has old) c.serial
+    by_rank (inl same) =
+        inl (children_unlisted nodes order old mid rank e distinct is lt (ap (λ r. get_or order r 0) (sym same) ∙ (under.unlisted).at) found under.implicit off child.0 c child.1)
+    by_rank (inr free) = inr (record {
+      container = e;
+      above = under.above;
+      implicit = under.implicit;
+      unlisted = record { rank = (under.unlisted).rank; within = (under.unlisted).within; at = (under.unlisted).at; free = free };
+    })
+
+-- ---- an ending that stays
+
+abbrev first_in : Option ChildEnd → Option Time
+first_in None = None
+first_in (Some c) = c.first
+
+abbrev latest_in : Option ChildEnd → Option Time
+latest_in None = None
+latest_in (Some c) = c.latest
+
+-- a time child whose kept ending stays, and is right before and after, ends as it did
+pub same_ends_kept : (h : History) (before after : ℕ → Option Interval) (old new : ℕ → Type 0) (kept next : KeptEnds) (e : Node) (who : ℕ) → IsDistinct h.nodes → AreKnown h before old kept → AreKnown h after new next → next ≡ kept → node_at (elements h.nodes) e.serial ≡ Some e → has_implicit_duration e ≡ true → list_any (λ (c : Node). (c.serial == who) && is_time_child h.nodes e.serial c) h.nodes ≡ true → old who → new who → SameEnds h h (before who) (after who) who
+same_ends_kept h before after old new kept next e who distinct was are stays here implicit fed had known =
+    subst (λ s. SameEnds h h (before s) (after s) s) own (record { first = ap first_in both; latest = ap latest_in both })
+  where
+    child : (k : ℕ) × (c : Node) × (slice_get (time_children h.nodes e.serial) k ≡ Some c) × (c.serial ≡ who)
+    child = child_at h.nodes e.serial who fed
+
+    own : (child.1).serial ≡ who
+    own = child.3
+
+    place : (p : ℕ) × (slice_get (elements h.nodes) p ≡ Some e)
+    place = place_at h.nodes e distinct here
+
+    both : Some (child_end h after e child.1) ≡ Some (child_end h before e child.1)
+    both =
+        sym (are.right place.0 child.0 e child.1 place.1 implicit child.2 (subst new (sym own) known))
+        ∙ ap (λ (k : KeptEnds). slice_get (slice_index_or k.ends place.0 []) child.0) stays
+        ∙ was.right place.0 child.0 e child.1 place.1 implicit child.2 (subst old (sym own) had)

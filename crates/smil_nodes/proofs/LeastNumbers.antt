@@ -65,3 +65,32 @@ least_beside slot slots = from_sofar slot slots
 
 pub least_of_both : (xs ys : List (Option ℕ)) → least_number (xs ++ ys) ≡ earlier_of (least_number xs) (least_number ys)
 least_of_both xs ys = fold-append earlier_of None xs ys ∙ from_sofar (least_number xs) ys
+
+same_twice : (a : Option ℕ) → earlier_of a a ≡ a
+same_twice None = refl
+same_twice (Some n) = elim (nat_lt n n) as (λ (t : Bool). (if t then Some n else Some n) ≡ Some n) [ true ↦ refl | false ↦ refl ]
+
+-- what is less than the least of some is the least of them where it stands in the place of one
+pub least_changed : (front back : List (Option ℕ)) (before changed : Option ℕ) → earlier_of (least_number (front ++ before ∷ back)) changed ≡ changed → least_number (front ++ changed ∷ back) ≡ changed
+least_changed front back before changed less =
+    spread changed
+    ∙ ap (λ t. earlier_of (least_number front) t) (swapped changed (least_number back))
+    ∙ sym (grouped (least_number front) (least_number back) changed)
+    ∙ ap (earlier_of others) (sym whole)
+    ∙ sym (grouped others (earlier_of others before) changed)
+    ∙ ap (λ t. earlier_of t changed) (sym (grouped others others before) ∙ ap (λ t. earlier_of t before) (same_twice others))
+    ∙ whole
+  where
+    others : Option ℕ
+    others = earlier_of (least_number front) (least_number back)
+
+    spread : (slot : Option ℕ) → least_number (front ++ slot ∷ back) ≡ earlier_of (least_number front) (earlier_of slot (least_number back))
+    spread slot = least_of_both front (slot ∷ back) ∙ ap (earlier_of (least_number front)) (least_beside slot back)
+
+    whole : earlier_of (earlier_of others before) changed ≡ changed
+    whole =
+        ap (λ t. earlier_of t changed)
+        (grouped (least_number front) (least_number back) before
+        ∙ ap (earlier_of (least_number front)) (swapped (least_number back) before)
+        ∙ sym (spread before))
+        ∙ less

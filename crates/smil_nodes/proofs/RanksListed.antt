@@ -18,10 +18,12 @@ use Rattle.smil_model.specs.declared.interval.Interval.{Interval}
 use Rattle.smil_model.specs.document.Document.{elements, is_below, is_element, is_within, node_at, serials}
 use Rattle.smil_model.specs.document.Closure.{has}
 use Rattle.smil_model.specs.document.Valid.{IsDistinct}
-use Rattle.smil_model.specs.reach.Reach.{key_of, logged_key, logged_subject, pressed, reads, subject, subject_of, waiters}
+use Rattle.smil_model.specs.reach.Reach.{is_option, key_of, logged_key, logged_subject, pressed, reads, subject, subject_of, waiters}
 use Rattle.smil_concern_laws.specs.Concerned.{is_concerned_by_happening, is_concerned_by_logged, is_concerned_by_step, is_concerned_through, is_moved}
 use Rattle.smil_laws.proofs.LineageParents.{same_eqb}
-use Rattle.smil_graph.specs.Graph.{IsGraphOrder, readers_of}
+use Rattle.smil_laws.proofs.DependencyRanks.{any_elem}
+use Rattle.smil_graph.specs.Graph.{IsGraphOrder, has_rank, readers_of}
+use Rattle.smil_graph.proofs.GraphTables.{place_is}
 use Rattle.smil_graph.proofs.GraphAnswers.{element_at, only_element}
 use Rattle.smil_graph.proofs.LinksAreDependencies.{any_filter, any_there, there_any_item}
 use Rattle.smil_stretch.proofs.NodesAbove.{known_element, lineage_before}
@@ -36,16 +38,16 @@ use Rattle.smil_tree.proofs.NodeFamilies.{node_of_place}
 -- ---- a rank in an order
 
 -- what has a rank stands at it
-at_rank : (order : List ℕ) (s r : ℕ) → position (λ t. t == s) order ≡ Some r → get_or order r 0 ≡ s
+pub at_rank : (order : List ℕ) (s r : ℕ) → position (λ t. t == s) order ≡ Some r → get_or order r 0 ≡ s
 at_rank order s r at = let found = position-Some (λ t. t == s) order r 0 at in eqb-true (get_or order r 0) s found.1
 
-below : (order : List ℕ) (s r : ℕ) → position (λ t. t == s) order ≡ Some r → r < length order
+pub below : (order : List ℕ) (s r : ℕ) → position (λ t. t == s) order ≡ Some r → r < length order
 below order s r at = let found = position-Some (λ t. t == s) order r 0 at in found.0
 
 -- what is in an order has a rank in it
-has_rank : (xs : List ℕ) (s : ℕ) → is_some (position (λ t. t == s) xs) ≡ has xs s
-has_rank [] s = refl
-has_rank (x ∷ xs) s = ap is_some (position_cons (λ t. t == s) x xs) ∙ step (x == s) (position (λ t. t == s) xs) (has_rank xs s)
+is_placed : (xs : List ℕ) (s : ℕ) → is_some (position (λ t. t == s) xs) ≡ has xs s
+is_placed [] s = refl
+is_placed (x ∷ xs) s = ap is_some (position_cons (λ t. t == s) x xs) ∙ step (x == s) (position (λ t. t == s) xs) (is_placed xs s)
   where
     step : (b : Bool) (o : Option ℕ) → is_some o ≡ has xs s → is_some (cond b (Some 0) (option_map suc o)) ≡ (b || has xs s)
     step true o q = refl
@@ -63,13 +65,13 @@ known_serial s (n ∷ ns) = step (n.serial == s) (known_serial s ns)
 -- the elements are those that have a rank
 pub ranked : (nodes : List Node) (order : List ℕ) (s : ℕ) → IsGraphOrder nodes order → is_some (position (λ t. t == s) order) ≡ is_some (node_at (elements nodes) s)
 ranked nodes order s is =
-    has_rank order s
+    is_placed order s
     ∙ sym (list_any-IsPermutation (λ t. t == s) (serials (elements nodes)) order is.all)
     ∙ known_serial s (elements nodes)
 
 -- ---- lists that grow
 
-take_none : {A : Type 0} (xs : List A) → take 0 xs ≡ []
+pub take_none : {A : Type 0} (xs : List A) → take 0 xs ≡ []
 take_none [] = refl
 take_none (x ∷ xs) = refl
 
@@ -143,6 +145,44 @@ module _ (order : List ℕ) where
 
     pub all_noted : (k : ℕ) (old new : List ℕ) → length xs ≤ k → AreNoted order (λ s. list_any (test s) (take k xs)) old new → AreNoted order (λ s. list_any (test s) xs) old new
     all_noted k old new l noted = noted_by (λ s. list_any (test s) (take k xs)) (λ s. list_any (test s) xs) old new (λ s r at. ap (list_any (test s)) (take_all k xs l)) noted
+
+-- ---- ranks of serials
+
+-- the rank of one serial is that of no other
+rank_is : (order : List ℕ) (s r x : ℕ) → position (λ t. t == s) order ≡ Some r → has_rank order r x ≡ (x == s)
+rank_is order s r x at = by_test (x == s) refl
+  where
+    by_place : (o : Option ℕ) → position (λ t. t == x) order ≡ o → x == s ≡ false → is_option r o ≡ false
+    by_place None q other = refl
+    by_place (Some k) q other = by_rank (r == k) refl
+      where
+        by_rank : (t : Bool) → r == k ≡ t → t ≡ false
+        by_rank false e = refl
+        by_rank true e =
+            let one : x ≡ s = sym (at_rank order x k q) ∙ ap (λ n. get_or order n 0) (sym (eqb-true r k e)) ∙ at_rank order s r at in
+            let never : true ≡ false = sym (eq-eqb x s one) ∙ other in
+            cc
+
+    by_test : (t : Bool) → x == s ≡ t → has_rank order r x ≡ t
+    by_test true q = ap (λ y. has_rank order r y) (eqb-true x s q) ∙ ap (is_option r) at ∙ eq-eqb r r refl
+    by_test false q = by_place (position (λ t. t == x) order) refl q
+
+-- the ranks of serials are listed
+pub ranks_noted : (order serials ranks old new : List ℕ) → ((r : ℕ) → has ranks r ≡ list_any (has_rank order r) serials) → ((r : ℕ) → has new r ≡ (has old r || has ranks r)) → AreNoted order (has serials) old new
+ranks_noted order serials ranks old new those told = record {
+  listed = λ s r at. told r ∙ ap (λ t. has old r || t) (those r ∙ any_rank serials s r at);
+  ranks = λ r on. by_case r (or_cases (has old r) (has ranks r) (sym (told r) ∙ on));
+}
+  where
+    any_rank : (xs : List ℕ) (s r : ℕ) → position (λ t. t == s) order ≡ Some r → list_any (has_rank order r) xs ≡ has xs s
+    any_rank [] s r at = refl
+    any_rank (x ∷ xs) s r at = ap (λ t. t || list_any (has_rank order r) xs) (rank_is order s r x at) ∙ ap (λ t. (x == s) || t) (any_rank xs s r at)
+
+    by_case : (r : ℕ) → (has old r ≡ true) ⊎ (has ranks r ≡ true) → (has old r ≡ true) ⊎ (r < length order)
+    by_case r (inl was) = inl was
+    by_case r (inr q) =
+        let one = any_elem (has_rank order r) serials (sym (those r) ∙ q) in
+        inr (below order one.0 r (place_is r (position (λ t. t == one.0) order) one.2))
 
 -- ---- of the elements of a document
 

@@ -1,19 +1,20 @@
 -- What is current before entries is, but for the elements that they list, as these entries leave it.
-use Rattle.std.proofs.Common.{◌≡◌, refl, sym, ◌∙◌, ap, subst, ℕ, ◌<◌, List, ◌++◌, length, get_or, drop, Option, Some, None, Bool, true, false, ℤ}
+use Rattle.std.proofs.Common.{◌≡◌, refl, sym, ◌∙◌, ap, subst, ℕ, ◌<◌, List, ◌++◌, length, get_or, drop, Option, Some, None, Bool, true, false, ℤ, inl, inr}
 use Rattle.std.specs.Prelude.{◌&&◌, ◌==◌, cond, is_some, nat_eq, slice_get}
 use Rattle.std.specs.List.{IsDistinct, list_any, position}
-use Rattle.std.proofs.lemmas.Bool.{and_parts, eqb-true}
+use Rattle.std.proofs.lemmas.Bool.{and_parts, eq-eqb, eqb-true}
 use Rattle.smil_model.specs.declared.document.Node.{Node}
 use Rattle.smil_model.specs.declared.interval.Interval.{Interval}
 use Rattle.smil_model.specs.document.Dependencies.{has_implicit_duration}
-use Rattle.smil_model.specs.document.Document.{elements, has_serial, is_element, is_time_child, node_at, time_parent}
-use Rattle.smil_model.specs.diary.Diary.{up_to}
-use Rattle.smil_model.specs.interval.Current.{simple_of}
+use Rattle.smil_model.specs.document.Document.{elements, has_serial, is_element, is_time_child, node_at, serial_of, time_children, time_parent}
+use Rattle.smil_model.specs.diary.Diary.{History, up_to}
+use Rattle.smil_model.specs.interval.Current.{child_end, simple_of}
 use Rattle.smil_model.specs.happening.Keys.{coming_by}
 use Rattle.smil_laws.specs.Edited.{IsOrdered}
 use Rattle.smil_laws.specs.Touched.{GivesSame, in_reaches}
 use Rattle.smil_laws.proofs.TouchedReached.{reaches_hold}
 use Rattle.smil_concern_laws.specs.Unconcerned.{ChildrenEndSame, SameEnds}
+use Rattle.smil_concern_laws.proofs.SimpleSame.{child_same as end_same}
 use Rattle.smil_concern_laws.proofs.UnconcernedEnds.{same_ends}
 use Rattle.smil_concern_laws.proofs.UnconcernedStay.{leaves_unconcerned}
 use Rattle.smil_graph.specs.Graph.{IsGraphOrder}
@@ -27,10 +28,12 @@ use Rattle.smil_rounds.specs.Round.{IsRowOf}
 use Rattle.smil_rounds.proofs.RowsBesideElements.{first_at, interval_at, there_at}
 use Rattle.smil_rounds.proofs.RowEvaluated.{elements_differ}
 use Rattle.smil_cells.specs.Evaluated.{is_noted_by}
-use Rattle.smil_nodes.specs.Work.{AreSettled}
-use Rattle.smil_nodes.proofs.EndsStay.{all_done, ends_by_interval}
-use Rattle.smil_nodes.proofs.EntriesNoted.{noted_touched, unconcerned, unended_child_all, unnoted_child_all}
+use Rattle.smil_nodes.specs.Endings.{AreKnown, KeptEnds, anyone}
+use Rattle.smil_nodes.specs.Work.{AreSettled, HasKeptEnding, IsUnlisted}
+use Rattle.smil_nodes.proofs.EndsStay.{all_done, ends_by_interval, same_end}
+use Rattle.smil_nodes.proofs.EntriesNoted.{noted_touched, unconcerned, unended_child_all, unnoted_apart_all, unnoted_child_all}
 use Rattle.smil_nodes.proofs.RowAtElement.{current_elements, row_of_current}
+use Rattle.smil_nodes.proofs.TimeChildPlaces.{family}
 use Rattle.smil_nodes.proofs.WholeHistory.{front_whole}
 use Rattle.smil_nodes.proofs.ElementRanks.{element_of, found_place}
 
@@ -43,7 +46,7 @@ module _ (past : MarkedHistory) (from : ℕ) (now : ℤ) (order : List ℕ) (row
       (unnoted_child_all past.document.nodes ordered.distinct past.log (interval_in rows) e here implicit c.serial (ap is_some there) under fed (drop from past.diary) none free))
   child_same e c here implicit there under fed free (Some i) some =
       subst (λ o. SameEnds (front past from) (up_to (front past from) ((front past from).diary ++ drop from past.diary)) o o c.serial) (sym some)
-      (ends_by_interval c (front past from) (drop from past.diary) i ordered.first there
+      (ends_by_interval c (interval_in rows) i some (front past from) (drop from past.diary) ordered.first there
       (unended_child_all past.document.nodes ordered.distinct past.log (interval_in rows) e here implicit c.serial (ap is_some there) under fed (drop from past.diary) free))
 
   -- so do all
@@ -88,6 +91,39 @@ module _ (past : MarkedHistory) (from : ℕ) (now : ℤ) (order : List ℕ) (row
         row_given place e row (given_same e there free) (interval_at e.serial rows place row first got)
         (row_of_current rows (front past from) now place e row ordered are here got);
   }
+
+  -- the endings of the elements that are not listed, and of the time children of those, are right
+  pub known_first : (kept : KeptEnds) → AreKnown (front past from) (interval_in rows) anyone kept → AreKnown (history_of past) (interval_in rows) (HasKeptEnding past.document.nodes order listed) kept
+  known_first kept are = record {
+    homes = are.homes;
+    names = are.names;
+    right = λ p k e c at_e implicit at_c is_kept.
+        are.right p k e c at_e implicit at_c tt
+        ∙ ap Some (sym (ends p k e c at_e implicit at_c is_kept) ∙ ap (λ x. child_end x (interval_in rows) e c) (front_whole past from));
+  }
+    where
+      later : History
+      later = up_to (front past from) ((front past from).diary ++ drop from past.diary)
+
+      unlisted : (s : ℕ) → IsUnlisted order listed s → is_noted_by past.document.nodes past.log (interval_in rows) (drop from past.diary) s ≡ false
+      unlisted s free = sym (told s free.rank (found_place s order free.rank distinct free.within free.at)) ∙ free.free
+
+      ends : (p k : ℕ) (e c : Node) → slice_get (elements past.document.nodes) p ≡ Some e → has_implicit_duration e ≡ true → slice_get (time_children past.document.nodes e.serial) k ≡ Some c → HasKeptEnding past.document.nodes order listed c.serial → child_end later (interval_in rows) e c ≡ child_end (front past from) (interval_in rows) e c
+      ends p k e c at_e implicit at_c (inl free) =
+          same_end (front past from) later (interval_in rows) e c
+          (all_done c (front past from) (drop from past.diary) ordered.first (family past.document.nodes e.serial k c ordered.distinct at_c).known
+          (unnoted_apart_all past.document.nodes ordered.distinct past.log (interval_in rows) c.serial (drop from past.diary) (unlisted c.serial free)))
+      ends p k e c at_e implicit at_c (inr under) =
+          let of = family past.document.nodes e.serial k c ordered.distinct at_c in
+          let here : node_at (elements past.document.nodes) e.serial ≡ Some e = there_at (elements past.document.nodes) p e (elements_differ past.document.nodes ordered.distinct) at_e in
+          let both : Some (under.container).serial ≡ Some e.serial = sym (ap serial_of under.above) ∙ of.under in
+          let own : (under.container).serial ≡ e.serial = cc in
+          end_same (front past from) later (interval_in rows) (interval_in rows) e c
+          (child_same e c here implicit of.known (under_of (time_parent past.document.nodes c.serial) of.under) of.fed (subst (λ s. is_noted_by past.document.nodes past.log (interval_in rows) (drop from past.diary) s ≡ false) own (unlisted (under.container).serial under.unlisted)) (interval_in rows c.serial) refl)
+        where
+          under_of : (o : Option Node) → serial_of o ≡ Some e.serial → has_serial e.serial o ≡ true
+          under_of None q = cc
+          under_of (Some n) q = let one : n.serial ≡ e.serial = cc in eq-eqb n.serial e.serial one
 
   module _ (within : (r : ℕ) → listed r ≡ true → r < length order) (rank : ℕ) (on : listed rank ≡ true) where
     there : (e : Node) × (e.serial ≡ get_or order rank 0) × (node_at (elements past.document.nodes) e.serial ≡ Some e)

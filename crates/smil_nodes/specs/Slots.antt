@@ -1,5 +1,5 @@
 -- The numbers of keys, and slots that each have a number or none.
-use Rattle.std.specs.Prelude.{◌≡◌, ℕ, ◌+◌, ◌-◌, ◌*◌, ◌/◌, ◌%◌, ◌^◌, ◌<◌, ◌≤◌, nat_lt, ℤ, pos, neg_ℤ, nat_abs, ◌+ℤ◌, ◌≤ℤ◌, int_lt, List, drop, fold, length, slice_index_or, take, Bool, true, false, Option, Some, None, ◌⊎◌, ◌==◌, if◌then◌else◌}
+use Rattle.std.specs.Prelude.{◌≡◌, ℕ, ◌+◌, ◌-◌, ◌*◌, ◌/◌, ◌%◌, ◌^◌, ◌<◌, ◌≤◌, nat_lt, ℤ, pos, neg_ℤ, nat_abs, ◌+ℤ◌, ◌≤ℤ◌, int_lt, List, ◌∷◌, ◌++◌, drop, fold, length, slice_index_or, take, Bool, true, false, Option, Some, None, ◌⊎◌, ◌==◌, if◌then◌else◌}
 use Rattle.std.proofs.Common.{refl, sym}
 use Rattle.std.proofs.lemmas.Bool.{eqb-true}
 use Rattle.smil_model.specs.declared.happening.Key.{Key}
@@ -98,6 +98,14 @@ below places p = take 8 (drop (8 * p + 1) places)
 -- a place has the least number of those below it
 abbrev pub IsLeastBelow : List (Option ℕ) → ℕ → Type 0
 IsLeastBelow places p = slot_at places p ≡ least_number (below places p)
+
+-- a place had the least number of those below it before one of these got another
+pub record WasLeastBelow (places : List (Option ℕ)) (p : ℕ) (changed : Option ℕ) : Type 0 where
+  pub before : Option ℕ
+  pub front : List (Option ℕ)
+  pub back : List (Option ℕ)
+  pub now : below places p ≡ front ++ changed ∷ back
+  pub was : slot_at places p ≡ least_number (front ++ before ∷ back)
 
 -- below a place stand eight others or none, and each place but place 0 stands below one of those
 -- before the slots

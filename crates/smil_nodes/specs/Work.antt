@@ -1,41 +1,19 @@
 -- Elements evaluated in their order, in which each has a rank; those with listed ranks are left.
-use Rattle.std.specs.Prelude.{◌≡◌, ℕ, ◌<◌, ◌≤◌, ◌+◌, zero, suc, ℤ, List, [], ◌∷◌, nat_lt, nat_eq, ◌==◌, Bool, true, false, ◌&&◌, ◌||◌, Option, Some, slice_get, slice_index, length, if◌then◌else◌}
-use Rattle.std.specs.List.{IsDistinct, list_any, position}
+use Rattle.std.specs.Prelude.{◌≡◌, ◌⊎◌, ℕ, ◌<◌, ◌≤◌, ◌+◌, zero, suc, ℤ, List, [], ◌∷◌, nat_eq, Bool, true, false, Option, Some, slice_get, slice_index, length, if◌then◌else◌}
+use Rattle.std.specs.List.{IsDistinct}
 use Rattle.smil_model.specs.declared.diary.Entry.{Entry}
 use Rattle.smil_model.specs.declared.diary.LogEntry.{LogEntry}
 use Rattle.smil_model.specs.declared.interval.Interval.{Interval}
 use Rattle.smil_model.specs.declared.document.Node.{Node}
-use Rattle.smil_model.specs.document.Document.{elements}
+use Rattle.smil_model.specs.document.Dependencies.{has_implicit_duration}
+use Rattle.smil_model.specs.document.Document.{elements, time_parent}
 use Rattle.smil_model.specs.document.Closure.{has}
 use Rattle.smil_model.specs.diary.Diary.{History}
-use Rattle.smil_model.specs.reach.Reach.{is_option}
 use Rattle.smil_laws.specs.Touched.{in_reaches}
-use Rattle.smil_graph.specs.Graph.{OrderedNodes, readers_of}
 use Rattle.smil_rounds.specs.declared.current_rows.CurrentRow.{CurrentRow}
 use Rattle.smil_rounds.specs.Current.{interval_in}
 use Rattle.smil_rounds.specs.Round.{AreOfElements, IsRowEvaluated, IsRowOf}
 use Rattle.smil_cells.specs.Evaluated.{HasEvaluated, IsDue}
-
--- whether the element has this rank, and it is above another
-abbrev pub has_rank_above : List ℕ → ℕ → ℕ → ℕ → Bool
-has_rank_above order least rank serial =
-    nat_lt least rank && is_option rank (position (λ s. s == serial) order)
-
--- whether this is the rank of a reader, and above that of the element that it reads
-abbrev pub is_later_reader : List Node → List ℕ → ℕ → ℕ → ℕ → Bool
-is_later_reader nodes order least serial rank =
-    list_any (has_rank_above order least rank) (readers_of nodes serial)
-
--- besides what was, the rank of an element is listed where it is above another
-abbrev pub ListsAbove : OrderedNodes → ℕ → ℕ → List ℕ → List ℕ → Type 0
-ListsAbove graph least serial old new =
-    (rank : ℕ) → has new rank ≡ (has old rank || has_rank_above graph.order least rank serial)
-
--- besides what was, the ranks of the readers of an element are listed that are above its own
-abbrev pub ListsReaders : OrderedNodes → ℕ → ℕ → List ℕ → List ℕ → Type 0
-ListsReaders graph least serial old new =
-    (rank : ℕ)
-    → has new rank ≡ (has old rank || is_later_reader graph.nodes graph.order least serial rank)
 
 -- the interval of an element is the same
 abbrev pub HasSame : ℕ → List CurrentRow → List CurrentRow → Type 0
@@ -64,6 +42,20 @@ pub record IsUnlisted (order : List ℕ) (listed : ℕ → Bool) (serial : ℕ) 
   pub within : rank < length order
   pub at : slice_index order rank ≡ serial
   pub free : listed rank ≡ false
+
+-- the container that the ending of an element is kept for has a rank that is not listed
+pub record IsUnderUnlisted (nodes : List Node) (order : List ℕ) (listed : ℕ → Bool)
+    (serial : ℕ) : Type 0 where
+  pub container : Node
+  pub above : time_parent nodes serial ≡ Some container
+  pub implicit : has_implicit_duration container ≡ true
+  pub unlisted : IsUnlisted order listed container.serial
+
+-- the ending that is kept of an element is right where the element has a rank that is not listed,
+-- or its container has
+abbrev pub HasKeptEnding : List Node → List ℕ → (ℕ → Bool) → ℕ → Type 0
+HasKeptEnding nodes order listed serial =
+    IsUnlisted order listed serial ⊎ IsUnderUnlisted nodes order listed serial
 
 -- some elements were evaluated, one behind the other, the last one first in the list
 abbrev pub AreEvaluated : History → ℤ → List ℕ → List CurrentRow → List CurrentRow → Type 0

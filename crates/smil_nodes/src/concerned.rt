@@ -7,17 +7,18 @@ ghost use Rattle.smil_model.specs.document.Document.{time_parent};
 ghost use Rattle.smil_model.specs.reach.Reach.{waiters};
 ghost use Rattle.smil_concern_laws.specs.Concerned.{moves};
 ghost use Rattle.smil_graph.specs.Graph.{IsGraphOrder};
-ghost use Rattle.smil_cells.specs.Evaluated.{acts_on, is_container, is_moved_container, may_end};
+ghost use Rattle.smil_cells.specs.Evaluated.{acts_on, ends_at, is_at, is_container, is_moved_container, may_end};
 ghost use Rattle.smil_rounds.specs.Current.{interval_in};
 ghost use Rattle.smil_nodes.specs.Noted.{AreNoted, NotesEntries, NotesStep, has_moved_item, is_below_or_reader, is_concerned_by_heard, is_of_cell, is_of_moved, is_self_or_reader, moves_source};
 
+use super::followers::put_ranks;
 use super::schedule::Schedule;
 use smil_duration::takes_implicit;
 use smil_element::Intervals;
 use smil_graph::Graph;
 use smil_instance_rows::Cell;
 use smil_instances::Source;
-use smil_model::{Edge, Happening, PlaceSet, Step};
+use smil_model::{Edge, Happening, Interval, PlaceSet, Step, Time};
 use smil_past::Past;
 use smil_tree::Tree;
 use std::alloc::AllocError;
@@ -148,11 +149,37 @@ fn note_follower(
 fn may_end(schedule: &Schedule, step: Step, who: u32) -> bool
     ensures { result ≡ may_end (interval_in schedule.now) step who }
 {
-    moves(Edge::End, step) || schedule.interval(who).is_none()
+    let interval = schedule.interval(who);
+    match step {
+        Step::Ended { end, .. } => !ends_at(interval, end),
+        Step::Cut { .. } => true,
+        _ => interval.is_none(),
+    }
 }
 
-// Lists the time parent of an element where its duration follows from its time children.
-fn note_container(
+// Whether there is an interval, and with this end.
+fn ends_at(interval: Option<Interval>, end: i64) -> bool
+    ensures { result ≡ ends_at end interval }
+{
+    match interval {
+        Some(interval) => is_at(interval.end, end),
+        None => false,
+    }
+}
+
+// Whether a time is this number.
+fn is_at(time: Time, value: i64) -> bool
+    ensures { result ≡ is_at value time }
+{
+    match time {
+        Time::At(time) => time == value,
+        _ => false,
+    }
+}
+
+/// Lists the time parent of an element where its duration follows from its time children. It takes
+/// a fixed number of steps; refused where memory runs out.
+pub fn note_container(
     tree: &Tree,
     graph: &Graph,
     who: u32,
@@ -296,17 +323,7 @@ fn note_element(graph: &Graph, serial: u32, agenda: &mut PlaceSet) -> Result<(),
         return Ok(());
     };
     agenda.put(rank)?;
-    note_all(graph, graph.readers(serial), agenda)
-}
-
-// Lists elements; a serial of no element is passed over.
-fn note_all(graph: &Graph, serials: &[u32], agenda: &mut PlaceSet) -> Result<(), AllocError>
-    ensures { OnOk result (AreNoted graph.now.order (has serials.now) agenda.old agenda.new) }
-{
-    for serial in serials {
-        note(graph, *serial, agenda)?;
-    }
-    Ok(())
+    put_ranks(graph.reader_ranks(rank), agenda)
 }
 
 // Lists an element; a serial of no element is passed over.

@@ -1,8 +1,8 @@
 //! A tree of numbers, the least first, and the numbers of keys.
 
-ghost use Rattle.std.specs.Prelude.{◌≡◌, ◌↔◌, ℕ, ◌+◌, ◌*◌, ◌<◌, ◌≤◌, ◌^◌, None, IfOk, IfSome, IsTrue, drop, if◌then◌else◌, length, replicate, slice_set, take};
+ghost use Rattle.std.specs.Prelude.{◌≡◌, ◌↔◌, ℕ, ◌+◌, ◌-◌, ◌*◌, ◌/◌, ◌<◌, ◌≤◌, ◌^◌, None, IfOk, IfSome, IsTrue, drop, if◌then◌else◌, length, replicate, slice_set, take};
 ghost use Rattle.smil_model.specs.Tournaments.{most_items};
-ghost use Rattle.smil_nodes.specs.Slots.{AreFull, IsBesides, IsLeastBelow, IsNumber, below, earlier_of, least_number, moment_number, most_places, number_of, place_in, repeats, turned};
+ghost use Rattle.smil_nodes.specs.Slots.{AreFull, IsBesides, IsLeastBelow, IsNumber, WasLeastBelow, below, earlier_of, least_number, moment_number, most_places, number_of, place_in, repeats, slot_at, turned};
 
 use smil_model::{BEGIN_CLASS, Duplicate, Key};
 use std::alloc::{AllocError, Global};
@@ -167,17 +167,36 @@ fn decide_above(places: &mut [Slot], first: usize, place: usize)
     requires full { AreFull (length places.old) first }
     requires known { place < length places.old }
     requires others { (p : ℕ) → p < first → IsBesides place p → IsLeastBelow places.old p }
+    requires before { 0 < place
+        → WasLeastBelow places.old ((place - 1) / 8) (slot_at places.old place) }
     ensures decided { (p : ℕ) → p < first → IsLeastBelow places.new p }
     ensures kept { drop first places.new ≡ drop first places.old }
 {
     let mut decided = place;
     while 0 < decided {
+        let changed = places[decided];
         decided = (decided - 1) / 8;
-        let least = least_below(places, decided);
+        let least = least_with(places, decided, changed);
         if places[decided].is_same(least) {
             return;
         }
         places[decided] = least;
+    }
+}
+
+// The least of the eight slots below a place, which had the least of them before one got this
+// number: it is that number, where it is less than the one that the place has.
+#[inline(always)]
+fn least_with(places: &[Slot], place: usize, changed: Slot) -> Slot
+    requires few { place < most_places }
+    requires known { 8 * place + 8 < length places.now }
+    requires before { WasLeastBelow places.now place changed }
+    ensures { result ≡ least_number (below places.now place) }
+{
+    if changed.is_before(places[place]) {
+        changed
+    } else {
+        least_below(places, place)
     }
 }
 

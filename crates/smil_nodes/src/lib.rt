@@ -5,8 +5,8 @@
 mod concerned;
 mod due_tree;
 mod endings;
+mod followers;
 pub mod live;
-mod readers;
 mod schedule;
 mod sources;
 mod undo;

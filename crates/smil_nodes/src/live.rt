@@ -23,7 +23,7 @@ ghost use Rattle.smil_nodes.specs.Work.{AreDueOnce, HasSame};
 
 use super::concerned::note_concerned;
 use super::endings::Endings;
-use super::readers::put_readers;
+use super::followers::{Effect, put_container, put_ranks};
 use super::schedule::Schedule;
 use super::sources::Sources;
 use super::undo::{Note, Undo};
@@ -42,8 +42,9 @@ use std::sync::ledger::Ledger;
 pub type LiveCells = Cells<LiveTable>;
 
 /// A table that evaluates, after a happening, the elements that it concerns, the container of an
-/// element whose ends it may change, and those that read an element whose interval changed. How many
-/// evaluations that takes at the most is a clause of `refresh`.
+/// element whose ends it may change, those whose begins and ends follow from an element whose
+/// interval changed, and the container of one whose kept ending did. How many evaluations that takes
+/// at the most is a clause of `refresh`.
 pub struct LiveTable {
     schedule: Schedule,
     /// The ends of the time children of each element, by the intervals of the schedule.
@@ -152,9 +153,11 @@ impl Table for LiveTable {
         while let Some(rank) = self.agenda.take_first() {
             let who = order[rank];
             let present = Present { past, who, moment };
-            if self.evaluate(&present, steps)? {
+            let effect = self.evaluate(&present, steps)?;
+            if effect.interval {
                 changed.push(who)?;
-                put_readers(graph, who, rank, &mut self.agenda)?;
+                put_ranks(graph.follower_ranks(rank), &mut self.agenda)?;
+                put_container(past.tree(), graph, who, effect.ending, &mut self.agenda)?;
             }
         }
         Ok(())
@@ -233,12 +236,12 @@ impl LiveTable {
     }
 
     // Evaluates an element, where the ends of its time children are right if its duration is
-    // implicit. The answer is whether its interval changes.
+    // implicit. The answer is what changes of it.
     fn evaluate<L: Ledger>(
         &mut self,
         present: &Present<'_>,
         steps: &mut Steps<L>,
-    ) -> Result<bool, AllocError>
+    ) -> Result<Effect, AllocError>
         requires element { has_element present.now.past.now.document.nodes present.now.who ≡ true }
         requires moment { IsPresent present.now.past.now present.now.moment }
         requires of_elements { AreOfElements present.now.past.now.document.nodes
@@ -252,8 +255,10 @@ impl LiveTable {
             present.now.moment present.now.who self.old.schedule self.new.schedule) }
         ensures ended { OnOk result (IsEnded (history_of present.now.past.now) present.now.who
             self.new.schedule self.old.endings self.new.endings) }
-        ensures same { IfOk result (λ changes. (changes ≡ false)
+        ensures same { IfOk result (λ effect. (effect.interval ≡ false)
             ↔ HasSame present.now.who self.old.schedule self.new.schedule) }
+        ensures ending { IfOk result (λ effect. effect.ending ≡ false
+            → self.new.endings ≡ self.old.endings) }
         ensures agenda { self.new.agenda ≡ self.old.agenda }
         ensures back { GoesBack self.old self.new }
         ensures has_mark { self.new.has_mark ≡ self.old.has_mark }
@@ -271,8 +276,11 @@ impl LiveTable {
         };
         let made = outcome_of(present, index as u32, &sources, &mut self.room, steps)?;
         let changes = self.replace(index, made.interval, &made.comings)?;
-        self.put_ending(index, present, made.interval)?;
-        Ok(changes)
+        let ends = self.put_ending(index, present, made.interval)?;
+        Ok(Effect {
+            interval: changes,
+            ending: ends,
+        })
     }
 
     // Puts an interval, and what comes by it, in the row at an index; where a mark stands, what was
@@ -318,38 +326,41 @@ impl LiveTable {
     }
 
     // Puts the ending of an element with an index, by its interval, where that is kept; where a
-    // mark stands, what was there is noted. Nothing is done where it is there already.
+    // mark stands, what was there is noted. Nothing is done where it is there already. The answer is
+    // whether another was kept.
     #[inline(always)]
     fn put_ending(
         &mut self,
         index: usize,
         present: &Present<'_>,
         interval: Option<Interval>,
-    ) -> Result<(), AllocError>
+    ) -> Result<bool, AllocError>
         requires element { has_element present.now.past.now.document.nodes present.now.who ≡ true }
         requires here { slice_get (elements present.now.past.now.document.nodes) index
             ≡ node_at (elements present.now.past.now.document.nodes) present.now.who }
         requires index { index < length self.old.schedule }
         ensures ended { OnOk result (self.new.endings ≡ put_ending self.old.endings index
             (ending_by (history_of present.now.past.now) interval present.now.who)) }
+        ensures stays { IfOk result (λ changes. changes ≡ false
+            → self.new.endings ≡ self.old.endings) }
         ensures rows { self.new.schedule ≡ self.old.schedule }
         ensures back { GoesBack self.old self.new }
         ensures agenda { self.new.agenda ≡ self.old.agenda }
         ensures has_mark { self.new.has_mark ≡ self.old.has_mark }
     {
         if !self.endings.keeps(index) {
-            return Ok(());
+            return Ok(false);
         }
         let ending = ending_at(present.past, present.who, index, interval);
         if is_same_ending(self.endings.ending(index), ending) {
-            return Ok(());
+            return Ok(false);
         }
         if self.has_mark {
             self.undo
                 .note(index, self.schedule.row(index), &self.endings)?;
         }
         self.endings.put(index, ending);
-        Ok(())
+        Ok(true)
     }
 }
 

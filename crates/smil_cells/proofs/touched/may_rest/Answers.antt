@@ -4,9 +4,9 @@ use Rattle.smil_model.specs.document.Document.{elements}
 use Rattle.smil_model.specs.document.Defaults.{effective_fill}
 use Rattle.smil_model.specs.diary.Plays.{last_finished}
 use Rattle.smil_past.specs.declared.makeup.Makeup.{Makeup}
+use Rattle.smil_past.specs.Makeups.{is_freeze}
 use Rattle.smil_past.specs.Past.{history_of}
 use Rattle.smil_past.proofs.ItemReferences.{stands}
-use Rattle.smil_cells.specs.Shown.{is_freeze}
 use Rattle.smil_cells.proofs.touched.may_rest.Goals as goal
 
 pub returns-then-freezes : goal.returns-then-freezes

@@ -1,8 +1,8 @@
 use Rattle.std.proofs.Common.{◌∙◌, refl, ap, subst, ◌+◌, List, drop, take, get_or}
 use Rattle.std.proofs.lemmas.List.{take_all, take_rest}
 use Rattle.smil_model.specs.declared.diary.Entry.{Entry}
-use Rattle.smil_model.specs.reach.Reach.{subject_of}
 use Rattle.smil_past.specs.Past.{history_of}
+use Rattle.smil_cells.specs.Evaluated.{acts_on}
 use Rattle.smil_cells.specs.Shown.{ArePutWhere, any_shows, shows_from}
 use Rattle.smil_cells.proofs.ElementsShown.{entries_from}
 use Rattle.smil_cells.proofs.ElementsPut.{put_none, put_then, shows_more}
@@ -20,7 +20,7 @@ loop-entry-preserved c =
     let entries = entries_from c.entries.result.now c.args.from in
     let i = c.loop-entry.entry-index in
     let y = get_or entries i no_entry in
-    put_then h.nodes (any_shows h (take i entries)) (shows_from h y.step (subject_of h.log y.step)) (any_shows h (take (i + 1) entries)) c.args.touched.now c.loop-entry.touched c.touch_step.new.touched
+    put_then h.nodes (any_shows h (take i entries)) (shows_from h y.step (acts_on y.step)) (any_shows h (take (i + 1) entries)) c.args.touched.now c.loop-entry.touched c.touch_step.new.touched
     (λ s. shows_more h entries i s no_entry c.loop-entry-test.true)
     c.loop-entry.invariant c.in_ok-touch_step.ensures
 

@@ -1,7 +1,8 @@
-use Rattle.std.proofs.Common.{◌≡◌, ◌∙◌, sym, ap, subst, None, Some, false}
+use Rattle.std.proofs.Common.{◌≡◌, ◌∙◌, refl, sym, ap, subst, None, Some, true, false}
 use Rattle.std.proofs.lemmas.Result.{on_ok_weaker}
 use Rattle.std.specs.Prelude.{is_some}
-use Rattle.smil_model.specs.document.Document.{Document, is_within, node_at, serial_of, time_children}
+use Rattle.smil_model.specs.document.Document.{Document, elements, is_within, node_at, serial_of, time_children}
+use Rattle.smil_graph.specs.Tables.{takes_turns}
 use Rattle.smil_past.specs.Past.{history_of}
 use Rattle.smil_past.proofs.KnownNodes.{known_at_place}
 use Rattle.smil_cells.specs.Shown.{ArePutWhere, any_rests, displaced_in, shows_in}
@@ -14,6 +15,10 @@ touch_within-requires c = known_at_place c.tree-tree.result.now.nodes c.args.who
 
 pub displaced-requires : goal.displaced-requires
 displaced-requires c = known_at_place c.tree-tree.result.now.nodes c.args.who (ap (λ o. is_some o) (sym c.position.ensures) ∙ c.if-is_none.ensures)
+
+pub touch_resting-requires : goal.touch_resting-requires
+touch_resting-requires c =
+    subst (λ (d : Document). takes_turns (node_at (elements d.nodes) c.in-Some.parent) ≡ true) c.tree-tree.ensures (c.in-Some.ensures.known c.in-Some.parent refl)
 
 pub returns-then-is_none : goal.returns-then-is_none
 returns-then-is_none c =

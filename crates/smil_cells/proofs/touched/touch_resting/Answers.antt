@@ -2,18 +2,30 @@ use Rattle.std.proofs.Common.{◌≡◌, ◌∙◌, refl, sym, ap, subst, ℕ, �
 use Rattle.std.specs.Prelude.{◌&&◌, is_some}
 use Rattle.std.proofs.lemmas.List.{length-map, take_all}
 use Rattle.smil_model.specs.declared.document.Node.{Node}
-use Rattle.smil_model.specs.document.Document.{Document, elements, is_within, serials, time_children}
+use Rattle.smil_model.specs.document.Document.{Document, elements, is_within, node_at, serials, time_children}
+use Rattle.smil_instances.proofs.IdTargets.{some_of}
 use Rattle.smil_past.specs.Past.{history_of}
 use Rattle.smil_past.proofs.ItemReferences.{stands}
 use Rattle.smil_element.proofs.KnownElements.{child_at}
 use Rattle.smil_cells.specs.Shown.{ArePutWhere, any_rests, may_rest}
-use Rattle.smil_cells.proofs.ElementsPut.{put_none, put_then, rests_more}
+use Rattle.smil_cells.proofs.ElementsShown.{turns_known}
+use Rattle.smil_cells.proofs.ElementsPut.{none_freezes, none_rest, put_none, put_then, rests_more}
 use Rattle.smil_cells.proofs.touched.touch_resting.Goals as goal
 
 pub touch_where_resting-requires : goal.touch_where_resting-requires
 touch_where_resting-requires c =
     let are : c.time_children-child-items.result.now ≡ serials (time_children c.args.past.now.document.nodes c.args.parent) = c.time_children-child-items.ensures ∙ ap (λ (d : Document). serials (time_children d.nodes c.args.parent)) c.tree.ensures in
     ap is_some (child_at c.args.past.now.document c.possible.ensures.valid.numbered c.args.parent c.loop-child.child-index c.time_children-child-items.result.now are c.loop-child-test.true).known
+
+pub keeps_children-requires : goal.keeps_children-requires
+keeps_children-requires c = turns_known (node_at (elements c.args.past.now.document.nodes) c.args.parent) c.requires
+
+pub returns-then-not-keeps_children : goal.returns-then-not-keeps_children
+returns-then-not-keeps_children c =
+    let h = history_of c.args.past.now in
+    let found = some_of (node_at (elements h.nodes) c.args.parent) (turns_known (node_at (elements h.nodes) c.args.parent) c.requires) in
+    let none = none_freezes h.nodes c.args.parent found.0 found.1 c.requires (sym (c.keeps_children.ensures found.0 found.1) ∙ c.if-not-keeps_children.true) in
+    put_none h.nodes (any_rests h (time_children h.nodes c.args.parent)) c.args.touched.now (λ s. none_rest h (time_children h.nodes c.args.parent) s none)
 
 pub loop-child-init : goal.loop-child-init
 loop-child-init c =

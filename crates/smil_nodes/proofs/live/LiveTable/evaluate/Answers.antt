@@ -101,8 +101,8 @@ put_ending-requires-clause-index g c =
     let here : c.unwrap-index.result < length c.args.self.now.schedule = within g (goal.at.put_ending-requires-clause-index g c).After-unwrap-index in
     omega (arith, count, here)
 
-pub returns-in_err-put_ending-clause-back : goal.returns-in_err-put_ending-clause-back
-returns-in_err-put_ending-clause-back g c = λ marked.
+pub returns-in_err-ends-clause-back : goal.returns-in_err-ends-clause-back
+returns-in_err-ends-clause-back g c = λ marked.
     c.put_ending.ensures.back (c.replace.ensures.has_mark ∙ marked) ∙ c.replace.ensures.back marked
 
 pub returns-clause-back : goal.returns-clause-back
@@ -140,7 +140,10 @@ returns-clause-ended g c =
       here = (at g all).here;
       is_who = (at g all).is_who;
       after_is =
-          c.in_ok-put_ending.ensures.ended
+          c.in_ok-ends.ensures.ended
           ∙ ap (λ (kept : KeptEnds). put_ending kept index (ending_by h (made g all).interval who)) c.replace.ensures.endings
           ∙ ap (λ (o : Option Interval). put_ending c.args.self.now.endings index (ending_by h o who)) (sym (own g all new (c.put_ending.ensures.rows ∙ c.in_ok-changes.ensures.put)));
     }
+
+pub returns-clause-ending : goal.returns-clause-ending
+returns-clause-ending g c = λ unchanged. c.in_ok-ends.ensures.stays unchanged ∙ c.replace.ensures.endings

@@ -61,7 +61,7 @@ loop-who-preserved g c =
       omega (arith, kept.steps, c.loop-who.invariant.2),
       known_ended (history_of c.args.past.now) who c.loop-who.self.schedule c.evaluate.new.self.schedule c.loop-who.self.endings c.evaluate.new.self.endings (IsBelow order c.loop-who.who-index) (IsBelow order (c.loop-who.who-index + 1)) c.possible.ensures.valid.numbered.distinct
           (others_stay (history_of c.args.past.now) _ who c.loop-who.self.schedule c.evaluate.new.self.schedule c.possible.ensures.valid.numbered.distinct (c.loop-who.invariant.0).of_elements kept.taken)
-          kept.ended (λ s other below. below_next order c.loop-who.who-index who s refl other below) c.loop-who.invariant.3,
+          kept.ended (λ child there other below. below_next order c.loop-who.who-index who child.serial refl other below) c.loop-who.invariant.3,
     )
 
 pub returns-clause-current : goal.returns-clause-current

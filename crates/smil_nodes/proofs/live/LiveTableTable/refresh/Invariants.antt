@@ -6,7 +6,7 @@ use Rattle.smil_rounds.specs.Round.{StayUnchanged}
 use Rattle.smil_nodes.specs.Endings.{AreKnown}
 use Rattle.smil_nodes.specs.Marked.{GoesBack}
 use Rattle.smil_cells.specs.Evaluated.{AreChanged}
-use Rattle.smil_nodes.specs.Work.{AreSettled, IsCounted, IsUnlisted, gap_from}
+use Rattle.smil_nodes.specs.Work.{AreSettled, HasKeptEnding, IsCounted, gap_from}
 use Rattle.smil_nodes.proofs.live.LiveTableTable.refresh.Given as goal
 
 -- the elements that are not listed are settled, with their endings, and those that were evaluated are counted; the mark stays
@@ -18,7 +18,7 @@ invariant-loop-rank g l =
     × GoesBack l.fn.self l.self
     × (l.self.has_mark ≡ l.fn.self.has_mark)
     × (l.fn.steps ≤ l.steps)
-    × AreKnown (history_of l.past) (interval_in l.self.schedule) (IsUnlisted l.order (has l.self.agenda)) l.self.endings
+    × AreKnown (history_of l.past) (interval_in l.self.schedule) (HasKeptEnding l.past.document.nodes l.order (has l.self.agenda)) l.self.endings
     × AreChanged l.fn.changed l.changed (interval_in l.fn.self.schedule) (interval_in l.self.schedule)
 
 -- the least listed rank rises
