@@ -9,6 +9,7 @@ use Rattle.smil_model.specs.declared.diary.LogEntry.{LogEntry}
 use Rattle.smil_model.specs.declared.order.Order.{Order}
 use Rattle.smil_model.specs.declared.order.Order.TheVariants as order
 use Rattle.smil_model.specs.declared.order.Refusal.{Refusal}
+use Rattle.smil_model.specs.declared.view.View.{View}
 use Rattle.smil_model.specs.document.Document.{Document, elements}
 use Rattle.smil_model.specs.document.Valid.{IsNumberedTree, IsValid}
 use Rattle.smil_model.specs.document.Values.{is_clock}
@@ -22,7 +23,6 @@ use Rattle.smil_live.specs.Counts.{diary_at, edits_text, least_between, least_ed
 use Rattle.smil_live.specs.Editing.{IsEdited, edit_of}
 use Rattle.smil_shown.specs.ShownViews.{IsPlaying}
 use Rattle.smil_live.specs.Moves.{IsReplayed, IsTooFull, IsUnderWay, edited_to, sought_of}
-use Rattle.smil_shown.specs.ViewTable.{ViewLists}
 use Rattle.smil_live.specs.Sites.{IsMade, most_resolving, site_of, staying}
 use Rattle.smil_live.specs.Telling.{is_edit}
 use Rattle.smil_live.specs.Texts.{AgreeButForTexts}
@@ -38,14 +38,14 @@ use Rattle.smil_live.proofs.RebuiltCells.{may_rebuild, rebuilt_way}
 use Rattle.smil_live.proofs.RebuiltParts.{IsPart, front_until}
 
 -- settled cells are those of their own presentation
-pub own_replayed : (s : CellsState) (shown : ViewLists) → IsPlaying s shown → IsReplayed s.presentation s
+pub own_replayed : (s : CellsState) (shown : List View) → IsPlaying s shown → IsReplayed s.presentation s
 own_replayed s shown is = record { presentation_is = refl; sound = is.shown_is.sound; unmarked = is.unmarked; settled = is.shown_is.settled }
 
 -- ---- an edit
 
 -- what plays a presentation, an edit of its document, a copy of what the edit makes, and how many
 -- entries are kept by it
-pub record IsEditedAt (s : CellsState) (shown : ViewLists) (p : Presentation) (d e : Document) (at : Site) (len : ℕ) : Type 0 where
+pub record IsEditedAt (s : CellsState) (shown : List View) (p : Presentation) (d e : Document) (at : Site) (len : ℕ) : Type 0 where
   pub is : IsPlaying s shown
   pub view : s.presentation ≡ p
   pub same : d ≡ e
@@ -53,7 +53,7 @@ pub record IsEditedAt (s : CellsState) (shown : ViewLists) (p : Presentation) (d
   pub made : IsMade p.document at e
   pub count : len ≡ staying p e at
 
-module _ {s : CellsState} {shown : ViewLists} {p : Presentation} {d e : Document} {at : Site} {len : ℕ} (edit : IsEditedAt s shown p d e at len) where
+module _ {s : CellsState} {shown : List View} {p : Presentation} {d e : Document} {at : Site} {len : ℕ} (edit : IsEditedAt s shown p d e at len) where
   pub edited_is : edited_to s.presentation d ≡ edited_to p e
   edited_is = ap (λ (q : Presentation). edited_to q d) edit.view ∙ ap (edited_to p) edit.same
 
@@ -182,5 +182,5 @@ module _ {I : Type 0} (tell : Telling I) where
 
 -- ---- the diary that is kept
 
-pub diary_kept : (s : CellsState) (shown : ViewLists) (p : Presentation) → IsPlaying s shown → s.presentation ≡ p → s.diary ≡ diary_at p
+pub diary_kept : (s : CellsState) (shown : List View) (p : Presentation) → IsPlaying s shown → s.presentation ≡ p → s.diary ≡ diary_at p
 diary_kept s shown p is view = sym (diary_is (course_of s.presentation) s.diary is.shown_is.settled) ∙ ap diary_at view

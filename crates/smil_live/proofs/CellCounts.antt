@@ -4,6 +4,7 @@ use Rattle.std.proofs.Common.{◌≡◌, refl, sym, ◌∙◌, ap, subst, ℕ, �
 use Rattle.std.specs.Prelude.{pos, Result, Ok, Err, OnOk}
 use Rattle.smil_model.specs.declared.diary.Entry.{Entry}
 use Rattle.smil_model.specs.declared.diary.LogEntry.{LogEntry}
+use Rattle.smil_model.specs.declared.view.View.{View}
 use Rattle.smil_model.specs.document.Document.{Document}
 use Rattle.smil_model.specs.diary.Diary.{History}
 use Rattle.smil_model.specs.interval.Current.{current_interval}
@@ -13,7 +14,6 @@ use Rattle.smil_cells.specs.CellsState.{GoesOn, IsSettled, CellsState, WhereTold
 use Rattle.smil_cells.proofs.SettlingSteps.{drops, fresh_through, joined, least_adds_up, most_adds_up, nothing_fresh, nothing_reached, reached_through}
 use Rattle.smil_live.specs.Counts.{diary_at, interval_by, least_onward, most_onward}
 use Rattle.smil_live.specs.Moves.{IsShownAt, made}
-use Rattle.smil_shown.specs.ViewTable.{ViewLists}
 use Rattle.smil_live.specs.declared.moves.Move.{Move}
 use Rattle.smil_live.specs.declared.moves.Move.TheVariants as move
 use Rattle.smil_shown.proofs.SettledDiaries.{diary_is}
@@ -50,7 +50,7 @@ module _ (old mid new : CellsState) (document : mid.presentation.document ≡ ol
   }
 
 -- a standing at a later moment that goes on from the one before
-pub counted_then : (counts : Bool) (old mid new : CellsState) (moment : ℕ) (shown : ViewLists) (a b c : ℕ) → mid.presentation ≡ as_of old.presentation mid.presentation.now → IsCounted counts old mid a b
+pub counted_then : (counts : Bool) (old mid new : CellsState) (moment : ℕ) (shown : List View) (a b c : ℕ) → mid.presentation ≡ as_of old.presentation mid.presentation.now → IsCounted counts old mid a b
     → b ≤ c → IsShownAt (as_of mid.presentation moment) new shown → GoesOn mid new → WhereTold counts (c - b ≤ reached_since mid new) → WhereTold counts (fresh_since mid new ≤ c - b)
     → IsCounted counts old new a c
 counted_then counts old mid new moment shown a b c moved is later at on most least =
@@ -60,7 +60,7 @@ counted_then counts old mid new moment shown a b c moved is later at on most lea
     ap (λ (l : List LogEntry). reaches nodes l (drop (length old.diary) mid.diary)) (sym log) ∙ ap (reaches nodes new.presentation.log) (drops old.diary is.diary.0 mid.diary is.diary.1) in
     counted_by old mid new (ap (λ (p : Presentation). p.document) moved) is.diary.0 on.diary.0 is.diary.1 on.diary.1 by_mid a b c later counts is most least
 
-pub counted_last : {A E : Type 0} (r : Result A E) (counts : Bool) (old mid new : CellsState) (moment : ℕ) (shown : ViewLists) (a b c : ℕ) → mid.presentation ≡ as_of old.presentation mid.presentation.now
+pub counted_last : {A E : Type 0} (r : Result A E) (counts : Bool) (old mid new : CellsState) (moment : ℕ) (shown : List View) (a b c : ℕ) → mid.presentation ≡ as_of old.presentation mid.presentation.now
     → IsCounted counts old mid a b → b ≤ c → OnOk r (IsShownAt (as_of mid.presentation moment) new shown) → OnOk r (GoesOn mid new) → OnOk r (WhereTold counts (c - b ≤ reached_since mid new))
     → OnOk r (WhereTold counts (fresh_since mid new ≤ c - b)) → OnOk r (IsCounted counts old new a c)
 counted_last (Err e) counts old mid new moment shown a b c moved is later at on most least = tt
@@ -87,7 +87,7 @@ made_document p (move.Pass to) = refl
 made_document p (move.Settle to) = refl
 made_document p (move.Hear entry) = refl
 
-pub most_made : {A E : Type 0} (r : Result A E) (counts : Bool) (old new : CellsState) (p : Presentation) (step : Move) (shown : ViewLists) (rise : ℕ) → IsSettled old → old.presentation ≡ p
+pub most_made : {A E : Type 0} (r : Result A E) (counts : Bool) (old new : CellsState) (p : Presentation) (step : Move) (shown : List View) (rise : ℕ) → IsSettled old → old.presentation ≡ p
     → OnOk r (IsShownAt (made old.presentation step) new shown) → OnOk r (WhereTold counts (rise ≤ reached_since old new)) → OnOk r (WhereTold counts (rise ≤ most_onward p (made p step)))
 most_made (Err e) counts old new p step shown rise was here at most = tt
 most_made (Ok x) counts old new p step shown rise was here at most =
@@ -96,7 +96,7 @@ most_made (Ok x) counts old new p step shown rise was here at most =
     (subst (λ (n : ℕ). WhereTold counts (rise ≤ n))
     (reached_is old new was at.shown_is.settled (ap (λ (q : Presentation). q.document) at.presentation_is ∙ made_document old.presentation step)) most))
 
-pub least_made : {A E : Type 0} (r : Result A E) (counts : Bool) (old new : CellsState) (p : Presentation) (step : Move) (shown : ViewLists) (rise : ℕ) → IsSettled old → old.presentation ≡ p
+pub least_made : {A E : Type 0} (r : Result A E) (counts : Bool) (old new : CellsState) (p : Presentation) (step : Move) (shown : List View) (rise : ℕ) → IsSettled old → old.presentation ≡ p
     → OnOk r (IsShownAt (made old.presentation step) new shown) → OnOk r (WhereTold counts (fresh_since old new ≤ rise)) → OnOk r (WhereTold counts (least_onward p (made p step) ≤ rise))
 least_made (Err e) counts old new p step shown rise was here at least = tt
 least_made (Ok x) counts old new p step shown rise was here at least =

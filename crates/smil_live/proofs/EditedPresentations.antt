@@ -20,7 +20,6 @@ use Rattle.smil_live.specs.Editing.{IsEdited, edit_of}
 use Rattle.smil_revision.specs.Editing.{at_node}
 use Rattle.smil_shown.specs.ShownViews.{IsPlaying, views_at}
 use Rattle.smil_live.specs.Moves.{IsReplayed, IsTooFull, edited_to, told_of}
-use Rattle.smil_shown.specs.ViewTable.{ViewLists}
 use Rattle.smil_live.specs.Telling.{is_edit}
 use Rattle.smil_revision.proofs.EditedCopies.{at_there, some_from}
 use Rattle.smil_live.proofs.EditOrders.{edit_accepted, is_found, state_refused}
@@ -83,16 +82,15 @@ pub on_err_always : {T E P : Type 0} (r : Result T E) → P → OnErr r P
 on_err_always (Ok x) h = tt
 on_err_always (Err e) h = h
 
-pub plays : (q : Presentation) (s : CellsState) (shown : ViewLists) → IsState q → IsReplayed q s → shown ≡ record { views = views_at s; before = views_at s } → IsPlaying s shown
+pub plays : (q : Presentation) (s : CellsState) (shown : List View) → IsState q → IsReplayed q s → shown ≡ views_at s → IsPlaying s shown
 plays q s shown state is seen = record {
   shown_is = record {
     state = subst IsState (sym is.presentation_is) state;
     sound = is.sound;
     settled = is.settled;
-    views_are = ap (λ (x : ViewLists). x.views) seen;
+    views_are = seen;
   };
   unmarked = is.unmarked;
-  before = ap (λ (x : ViewLists). x.before) seen ∙ sym (ap (λ (x : ViewLists). x.views) seen);
 }
 
 -- cells of a presentation are replayed ones of their own

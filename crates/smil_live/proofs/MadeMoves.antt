@@ -9,16 +9,18 @@ use Rattle.smil_model.specs.shown.Orders.{IsState, Presentation, changes_between
 use Rattle.smil_report.specs.Tellings.{Telling}
 use Rattle.smil_cells.specs.Standings.{at_mark}
 use Rattle.smil_cells.specs.CellsState.{IsSettled, CellsState}
+use Rattle.smil_shown.specs.Sets.{AreOfElements}
 use Rattle.smil_shown.specs.ShownViews.{IsPlaying, IsShown, views_at}
+use Rattle.smil_shown.specs.ViewTable.{owners}
+use Rattle.smil_shown.proofs.AllViews.{of_elements}
 use Rattle.smil_live.specs.Moves.{IsShownAt, told_of}
-use Rattle.smil_shown.specs.ViewTable.{ViewLists}
 use Rattle.smil_shown.specs.Told.{told_between}
 use Rattle.smil_live.proofs.SettledCells.{views_settled}
 
 -- ---- behind a move
 
-pub shown_behind : {A E : Type 0} (r : Result A E) (p : Presentation) (s : CellsState) (shown : ViewLists) → s.presentation ≡ p → IsState s.presentation → s.fault ≡ None → IsSettled s
-    → OnOk r (shown.views ≡ views_at s) → OnOk r (IsShownAt p s shown)
+pub shown_behind : {A E : Type 0} (r : Result A E) (p : Presentation) (s : CellsState) (shown : List View) → s.presentation ≡ p → IsState s.presentation → s.fault ≡ None → IsSettled s
+    → OnOk r (shown ≡ views_at s) → OnOk r (IsShownAt p s shown)
 shown_behind (Err e) p s shown is state sound settled views = tt
 shown_behind (Ok x) p s shown is state sound settled views = record {
   presentation_is = is;
@@ -47,17 +49,15 @@ module _ {I : Type 0} (tell : Telling I) where
 abbrev pub marked_here : CellsState → CellsState
 marked_here s = record s { marked = Some (s.presentation, s.diary) }
 
-pub shown_marked : (old marked : CellsState) (shown : ViewLists) → IsShown old shown → marked ≡ marked_here old → IsShown marked shown
+pub shown_marked : (old marked : CellsState) (shown : List View) → IsShown old shown → marked ≡ marked_here old → IsShown marked shown
 shown_marked old marked shown is made =
     subst (λ (s : CellsState). IsShown s shown) (sym made)
     (record { state = is.state; sound = is.sound; settled = is.settled; views_are = is.views_are })
 
 -- a move that was made
-pub plays_on : (p : Presentation) (s after : CellsState) (shown let_stand : ViewLists) → IsShownAt p s shown → after ≡ record s { marked = None }
-    → let_stand ≡ record { views = shown.views; before = shown.views } → IsPlaying after let_stand
-plays_on p s after shown let_stand is forgotten stands =
-    subst (λ (t : CellsState). IsPlaying t let_stand) (sym forgotten)
-    (subst (λ (v : ViewLists). IsPlaying (record s { marked = None }) v) (sym stands)
+pub plays_on : (p : Presentation) (s after : CellsState) (shown : List View) → IsShownAt p s shown → after ≡ record s { marked = None } → IsPlaying after shown
+plays_on p s after shown is forgotten =
+    subst (λ (t : CellsState). IsPlaying t shown) (sym forgotten)
     (record {
       shown_is = record {
         state = (is.shown_is).state;
@@ -66,23 +66,34 @@ plays_on p s after shown let_stand is forgotten stands =
         views_are = (is.shown_is).views_are;
       };
       unmarked = refl;
-      before = refl;
-    }))
+    })
 
--- a move that was refused
-pub plays_again : (old marked gone back : CellsState) (shown seen again : ViewLists) → IsPlaying old shown → marked ≡ marked_here old → gone.marked ≡ marked.marked
-    → ((mark : Presentation × List Entry) → gone.marked ≡ Some mark → back ≡ at_mark gone.touched mark)
-    → seen.before ≡ shown.before → again ≡ record { views = seen.before; before = seen.before } → IsPlaying back again
-plays_again old marked gone back shown seen again was made kept undone before is =
-    subst (λ (t : CellsState). IsPlaying t again) (sym (undone (old.presentation, old.diary) (kept ∙ ap (λ (s : CellsState). s.marked) made)))
-    (subst (λ (v : ViewLists). IsPlaying (at_mark gone.touched (old.presentation, old.diary)) v) (sym is)
-    (record {
-      shown_is = record {
-        state = (was.shown_is).state;
-        sound = refl;
-        settled = (was.shown_is).settled;
-        views_are = before ∙ (was.before ∙ (was.shown_is).views_are);
-      };
-      unmarked = refl;
-      before = refl;
-    }))
+-- ---- a move that was refused
+
+module _ (old marked gone back : CellsState) (shown seen : List View) (was : IsPlaying old shown) (made : marked ≡ marked_here old) (kept : gone.marked ≡ marked.marked)
+    (undone : (mark : Presentation × List Entry) → gone.marked ≡ Some mark → back ≡ at_mark gone.touched mark) where
+  -- the cells are those of before, but for what they touched
+  pub back_is : back ≡ at_mark gone.touched (old.presentation, old.diary)
+  back_is = undone (old.presentation, old.diary) (kept ∙ ap (λ (s : CellsState). s.marked) made)
+
+  pub sound_again : back.fault ≡ None
+  sound_again = ap (λ (s : CellsState). s.fault) back_is
+
+  pub state_again : IsState back.presentation
+  state_again = subst (λ (s : CellsState). IsState s.presentation) (sym back_is) was.shown_is.state
+
+  pub settled_again : IsSettled back
+  settled_again = subst IsSettled (sym back_is) was.shown_is.settled
+
+  -- the views are still of all elements
+  pub owned_again : owners seen ≡ owners shown → AreOfElements back.presentation.document.nodes seen
+  owned_again same =
+      same
+      ∙ subst (λ (s : CellsState). AreOfElements s.presentation.document.nodes shown) (sym back_is)
+      (of_elements old old.presentation.document shown refl was.shown_is.views_are)
+
+  pub plays_again : (again : List View) → again ≡ views_at back → IsPlaying back again
+  plays_again again is = record {
+    shown_is = record { state = state_again; sound = sound_again; settled = settled_again; views_are = is };
+    unmarked = ap (λ (s : CellsState). s.marked) back_is;
+  }

@@ -18,7 +18,6 @@ use Rattle.smil_cells.proofs.SettlingSteps.{sooner}
 use Rattle.smil_rounds.proofs.MomentEntries.{over}
 use Rattle.smil_shown.specs.ShownViews.{IsShown}
 use Rattle.smil_live.specs.Moves.{IsFirstDue, IsShownAt, IsTooFull, told_of}
-use Rattle.smil_shown.specs.ViewTable.{ViewLists}
 use Rattle.smil_live.proofs.FullDiaries.{full_later}
 use Rattle.smil_live.proofs.QuietViews.{HasDiary, IsQuiet}
 use Rattle.smil_live.proofs.ReplayedLogs.{not_below}
@@ -58,14 +57,14 @@ module _ {I : Type 0} (tell : Telling I) where
 
   -- a presentation was passed through up to the moment of a standing, and this is what is shown there
   -- and was told by then
-  pub record IsPassing (p : Presentation) (front : List I) (to : ℤ) (s : CellsState) (shown : ViewLists) (text : List I) : Type 0 where
+  pub record IsPassing (p : Presentation) (front : List I) (to : ℤ) (s : CellsState) (shown : List View) (text : List I) : Type 0 where
     pub presentation_is : s.presentation ≡ as_of p s.presentation.now
     pub from : p.now ≤ s.presentation.now
     pub within : pos s.presentation.now ≤ℤ to
     pub shown_is : IsShown s shown
     pub told : text ≡ front ++ told_of tell p (changes_through p (s.presentation.now - p.now))
 
-  pub sets_out : (s : CellsState) (shown : ViewLists) (text : List I) (to : ℤ) → IsShown s shown → pos s.presentation.now ≤ℤ to → IsPassing s.presentation text to s shown text
+  pub sets_out : (s : CellsState) (shown : List View) (text : List I) (to : ℤ) → IsShown s shown → pos s.presentation.now ≤ℤ to → IsPassing s.presentation text to s shown text
   sets_out s shown text to is within = record {
     presentation_is = refl;
     from = omega arith;
@@ -77,7 +76,7 @@ module _ {I : Type 0} (tell : Telling I) where
       none : s.presentation.now - s.presentation.now ≡ 0
       none = omega arith
 
-module _ {I : Type 0} {tell : Telling I} {p : Presentation} {front : List I} {to : ℤ} {s : CellsState} {shown : ViewLists} {text : List I} (way : IsPassing tell p front to s shown text) where
+module _ {I : Type 0} {tell : Telling I} {p : Presentation} {front : List I} {to : ℤ} {s : CellsState} {shown : List View} {text : List I} (way : IsPassing tell p front to s shown text) where
   -- the moved presentation
   pub moved_is : (m : ℕ) → as_of s.presentation m ≡ as_of p m
   moved_is m = ap (λ (q : Presentation). as_of q m) way.presentation_is
@@ -114,7 +113,7 @@ module _ {I : Type 0} {tell : Telling I} {p : Presentation} {front : List I} {to
         no_less : (x y : ℤ) → y ≡ x → x ≤ℤ y
         no_less x y e = omega (arith, ints, e)
 
-    module _ (within : due ≤ℤ to) {next : CellsState} {shown' : ViewLists} {text' : List I} (is : IsShownAt (as_of s.presentation (nat_abs due)) next shown')
+    module _ (within : due ≤ℤ to) {next : CellsState} {shown' : List View} {text' : List I} (is : IsShownAt (as_of s.presentation (nat_abs due)) next shown')
         (new : text' ≡ text ++ told_of tell s.presentation (changes_between s.presentation (as_of s.presentation (nat_abs due)))) where
       at_due : next.presentation ≡ as_of p (nat_abs due)
       at_due = is.presentation_is ∙ moved_is (nat_abs due)

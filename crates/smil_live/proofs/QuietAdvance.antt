@@ -3,12 +3,12 @@ use Rattle.std.proofs.Common.{◌≡◌, ◌∙◌, ℕ, suc, ◌+◌, List, Opt
 use Rattle.std.specs.Prelude.{pos, ◌<ℤ◌, ◌≤ℤ◌, IfSome, option_map}
 use Rattle.std.proofs.lemmas.Int.{ints}
 use Rattle.smil_model.specs.declared.diary.Entry.{Entry}
+use Rattle.smil_model.specs.declared.view.View.{View}
 use Rattle.smil_model.specs.happening.Keys.{DueChange, coming, first_coming}
 use Rattle.smil_model.specs.shown.Orders.{Presentation}
 use Rattle.smil_house.specs.Next.{NothingChangesBefore, next_of}
 use Rattle.smil_cells.specs.CellsState.{CellsState, history_of}
 use Rattle.smil_shown.specs.ShownViews.{IsPlaying}
-use Rattle.smil_shown.specs.ViewTable.{ViewLists}
 use Rattle.smil_live.proofs.QuietViews.{HasDiary, IsQuiet}
 use Rattle.smil_live.proofs.ResolvedHistory.{history_with, resolved_is}
 use Rattle.smil_live.proofs.AdvanceChanges.{none_on_the_way}
@@ -31,7 +31,7 @@ nothing_before p d has by past = none_on_the_way p d has (suc by) by (omega arit
     quiet c first = past_next p.now by c.key.value (subst (λ (o : Option DueChange). IfSome (moment_of o) (λ moment. pos (p.now + by) <ℤ moment)) first past)
 
 -- what cells tell is what comes next in the presentation that they play, and nothing changes before it
-module _ (s : CellsState) (shown : ViewLists) (p : Presentation) {told : Option ℤ} (playing : IsPlaying s shown) (same : s.presentation ≡ p) (is : told ≡ moment_of (first_coming (coming (history_of s) (pos s.presentation.now)))) where
+module _ (s : CellsState) (shown : List View) (p : Presentation) {told : Option ℤ} (playing : IsPlaying s shown) (same : s.presentation ≡ p) (is : told ≡ moment_of (first_coming (coming (history_of s) (pos s.presentation.now)))) where
   pub next_told : told ≡ next_of p
   next_told =
       is

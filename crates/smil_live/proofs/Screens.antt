@@ -15,7 +15,6 @@ use Rattle.smil_house.specs.Screen.{on_screen, screen_of, since_finish}
 use Rattle.smil_past.specs.declared.plays.facts.PastInterval.{PastInterval}
 use Rattle.smil_past.specs.Played.{past_interval}
 use Rattle.smil_shown.specs.ShownViews.{IsPlaying}
-use Rattle.smil_shown.specs.ViewTable.{ViewLists}
 use Rattle.smil_shown.proofs.AllViews.{element_at, of_elements}
 use Rattle.smil_live.proofs.ResolvedHistory.{resolved_is}
 use Rattle.smil_live.proofs.ToldAnswers.{kept_views}
@@ -42,9 +41,9 @@ finish_is h s now last is = by (last_finished h s) is
     by None is = absurd cc
     by (Some f) is = let same : past_interval h s f ≡ last = cc in ap (λ (p : PastInterval). outer h s now -ℤ p.finish) same
 
-module _ (s : CellsState) (shown : ViewLists) (playing : IsPlaying s shown) where
+module _ (s : CellsState) (shown : List View) (playing : IsPlaying s shown) where
   -- the element of a view is known
-  pub known_at : (vs : List View) (i : ℕ) (v : View) → vs ≡ shown.views → slice_get vs i ≡ Some v → has_element s.presentation.document.nodes v.serial ≡ true
+  pub known_at : (vs : List View) (i : ℕ) (v : View) → vs ≡ shown → slice_get vs i ≡ Some v → has_element s.presentation.document.nodes v.serial ≡ true
   known_at vs i v is here =
       let nodes = s.presentation.document.nodes in
       let all = of_elements s s.presentation.document vs refl (is ∙ playing.shown_is.views_are) in
@@ -52,7 +51,7 @@ module _ (s : CellsState) (shown : ViewLists) (playing : IsPlaying s shown) wher
       ap (λ n. is_some (node_at (elements nodes) n)) (sym (serial_at vs i v here)) ∙ ap is_some e.found
 
   -- what is on the screen of it
-  pub screen_at : (p : Presentation) (vs : List View) (i : ℕ) → s.presentation ≡ p → vs ≡ shown.views →
+  pub screen_at : (p : Presentation) (vs : List View) (i : ℕ) → s.presentation ≡ p → vs ≡ shown →
       slice_get (screen_of p) i ≡ option_map (on_screen (history_of s) (pos s.presentation.now)) (slice_get vs i)
   screen_at p vs i same is =
       ap (λ (q : Presentation). slice_get (screen_of q) i) (sym same)

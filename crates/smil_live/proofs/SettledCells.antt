@@ -1,13 +1,13 @@
 -- Settled cells: nothing comes up to their moment, and their views are those of the presentation.
-use Rattle.std.proofs.Common.{◌≡◌, sym, ap, subst, ℕ, ◌+◌, ℤ, arith}
+use Rattle.std.proofs.Common.{List, ◌≡◌, sym, ap, subst, ℕ, ◌+◌, ℤ, arith}
 use Rattle.std.specs.Prelude.{pos, nat_abs, ◌≤ℤ◌, ◌+ℤ◌}
 use Rattle.smil_model.specs.declared.times.TheConstants.{HORIZON}
+use Rattle.smil_model.specs.declared.view.View.{View}
 use Rattle.smil_model.specs.shown.Orders.{IsState, Presentation, course_of, views_of, as_of}
 use Rattle.smil_cells.specs.CellsState.{IsSettled, NothingBefore, CellsState}
 use Rattle.smil_rounds.proofs.MomentEntries.{over}
 use Rattle.smil_shown.specs.ShownViews.{IsShown, views_at}
 use Rattle.smil_live.specs.Moves.{MayMove, made}
-use Rattle.smil_shown.specs.ViewTable.{ViewLists}
 use Rattle.smil_live.specs.declared.moves.Move.{Move}
 use Rattle.smil_live.specs.declared.moves.Move.TheVariants as move
 use Rattle.smil_shown.proofs.SettledDiaries.{nothing_due}
@@ -24,7 +24,7 @@ pub views_settled : (s : CellsState) → IsSettled s → views_at s ≡ views_of
 views_settled s settled = sym (views_are s.presentation s.diary settled)
 
 -- the document and the log are as they may be, and the diary is that of the presentation
-pub has_diary : (s : CellsState) (shown : ViewLists) → IsShown s shown → HasDiary s.presentation s.diary
+pub has_diary : (s : CellsState) (shown : List View) → IsShown s shown → HasDiary s.presentation s.diary
 has_diary s shown is = record { numbered = is.state.document.numbered; logged = is.state.logged; settled = is.settled }
 
 -- ---- moves

@@ -10,7 +10,6 @@ use Rattle.smil_text_laws.specs.PlainTexts.{DifferInTexts, with_document}
 use Rattle.smil_report.specs.Tellings.{Telling, gone_told}
 use Rattle.smil_cells.specs.CellsState.{CellsState}
 use Rattle.smil_shown.specs.ShownViews.{IsPlaying}
-use Rattle.smil_shown.specs.ViewTable.{ViewLists}
 use Rattle.smil_live.specs.Counts.{element_count, least_loading, least_onward, most_onward}
 use Rattle.smil_live.specs.Moves.{IsReplayed, IsTooFull, MayMove, changes_by, made, sought_of, told_of}
 use Rattle.smil_live.specs.Texts.{IsPlayed, current}
@@ -31,7 +30,7 @@ may_with p d (move.Settle to) may = may
 may_with p d (move.Hear entry) may = may
 
 -- cells that have gone on with the same document play the same one
-pub played_then : (old new : CellsState) (before after : ViewLists) (edited : Option Document) → IsPlayed old before (current old.presentation.document edited) → IsPlaying new after
+pub played_then : (old new : CellsState) (before after : List View) (edited : Option Document) → IsPlayed old before (current old.presentation.document edited) → IsPlaying new after
     → new.presentation.document ≡ old.presentation.document → IsPlayed new after (current new.presentation.document edited)
 played_then old new before after edited is playing same = record {
   playing = playing;
@@ -40,7 +39,7 @@ played_then old new before after edited is playing same = record {
 }
 
 -- cells, the document that is played, and the presentation
-module _ (s : CellsState) (shown : ViewLists) (edited : Option Document) (p : Presentation) (is : IsPlayed s shown (current s.presentation.document edited)) (view : (cells_with s edited).presentation ≡ p) (step : Move) where
+module _ (s : CellsState) (shown : List View) (edited : Option Document) (p : Presentation) (is : IsPlayed s shown (current s.presentation.document edited)) (view : (cells_with s edited).presentation ≡ p) (step : Move) where
   abbrev d : Document
   d = current s.presentation.document edited
 
@@ -80,7 +79,7 @@ module _ (s : CellsState) (shown : ViewLists) (edited : Option Document) (p : Pr
 
 -- ---- a seek back
 
-module _ (s t : CellsState) (shown : ViewLists) (edited : Option Document) (p : Presentation) (is : IsPlayed s shown (current s.presentation.document edited)) (view : (cells_with s edited).presentation ≡ p) (to : ℤ) (replayed : IsReplayed (sought_of s.presentation to) t) where
+module _ (s t : CellsState) (shown : List View) (edited : Option Document) (p : Presentation) (is : IsPlayed s shown (current s.presentation.document edited)) (view : (cells_with s edited).presentation ≡ p) (to : ℤ) (replayed : IsReplayed (sought_of s.presentation to) t) where
   abbrev e : Document
   e = current s.presentation.document edited
 
@@ -133,7 +132,7 @@ module _ (s t : CellsState) (shown : ViewLists) (edited : Option Document) (p : 
         ∙ ap (λ (l : List (ℕ × View)). old ++ gone_told tell p q ++ told_of tell q l) between_here))
 
 -- one that is refused
-pub sought_full : (s : CellsState) (shown : ViewLists) (edited : Option Document) (p : Presentation) → IsPlayed s shown (current s.presentation.document edited) → (cells_with s edited).presentation ≡ p
+pub sought_full : (s : CellsState) (shown : List View) (edited : Option Document) (p : Presentation) → IsPlayed s shown (current s.presentation.document edited) → (cells_with s edited).presentation ≡ p
     → (to : ℤ) (e : Refusal) → IsTooFull (sought_of s.presentation to) e → IsTooFull (sought_of p to) e
 sought_full s shown edited p is view to e full =
     subst (λ (x : Presentation). IsTooFull (sought_of x to) e) view (full_same (sought_of s.presentation to) (current s.presentation.document edited) is.differ e full)
@@ -141,7 +140,7 @@ sought_full s shown edited p is view to e full =
 -- ---- an edit of times
 
 -- what is told of other cells
-pub edit_told : {I : Type 0} (tell : Telling I) (s : CellsState) (shown : ViewLists) (edited : Option Document) (p q : Presentation) → IsPlayed s shown (current s.presentation.document edited) → (cells_with s edited).presentation ≡ p
+pub edit_told : {I : Type 0} (tell : Telling I) (s : CellsState) (shown : List View) (edited : Option Document) (p q : Presentation) → IsPlayed s shown (current s.presentation.document edited) → (cells_with s edited).presentation ≡ p
     → (old new : List I) → new ≡ old ++ gone_told tell s.presentation q ++ told_of tell q (changes_between s.presentation q) → new ≡ old ++ gone_told tell p q ++ told_of tell q (changes_between p q)
 edit_told tell s shown edited p q is view old new told =
     let d = current s.presentation.document edited in
@@ -151,9 +150,9 @@ edit_told tell s shown edited p q is view old new told =
 
 -- ---- other cells, taken over or not
 
-pub played_either : {A E : Type 0} (r : Result A E) (s t n : CellsState) (shown left : ViewLists) (edited : Option Document) → IsPlayed s shown (current s.presentation.document edited) → t.presentation.document ≡ s.presentation.document
+pub played_either : {A E : Type 0} (r : Result A E) (s t n : CellsState) (shown left : List View) (edited : Option Document) → IsPlayed s shown (current s.presentation.document edited) → t.presentation.document ≡ s.presentation.document
     → OnOk r (n ≡ t) → OnOk r (IsPlaying n left) → OnErr r ((n ≡ s) × (left ≡ shown)) → IsPlayed n left (current n.presentation.document edited)
 played_either (Ok x) s t n shown left edited is same there playing kept = played_then s n shown left edited is playing (ap (λ (u : CellsState). u.presentation.document) there ∙ same)
 played_either (Err x) s t n shown left edited is same there playing kept =
     subst (λ (u : CellsState). IsPlayed u left (current u.presentation.document edited)) (sym kept.0)
-    (subst (λ (v : ViewLists). IsPlayed s v (current s.presentation.document edited)) (sym kept.1) is)
+    (subst (λ (v : List View). IsPlayed s v (current s.presentation.document edited)) (sym kept.1) is)

@@ -39,7 +39,6 @@ use Rattle.smil_report.specs.Tellings.{Telling, changes_told, gone_told}
 use Rattle.smil_cells.specs.CellsState.{CellsState, IsRebuilt, MayRebuild, any_interval, fresh, history_of, is_same_interval}
 use Rattle.smil_house.specs.Screen.{on_screen, position_by, showing_by, since_iteration}
 use Rattle.smil_shown.specs.ShownViews.{IsPlaying}
-use Rattle.smil_shown.specs.ViewTable.{ViewLists}
 use Rattle.smil_live.specs.Counts.{diary_at, element_count, interval_by, least_loading, least_onward, most_onward, reached_behind}
 use Rattle.smil_live.specs.Moves.{IsTooFull, changes_by, made, told_of}
 use Rattle.smil_live.specs.Texts.{IsPlayed, current}
@@ -172,7 +171,7 @@ module _ (p : Presentation) (d : Document) (differ : DifferInTexts p.document.no
 abbrev pub cells_with : CellsState → Option Document → CellsState
 cells_with s edited = record s { presentation = with_document s.presentation (current s.presentation.document edited) }
 
-pub cells_playing : (s : CellsState) (shown : ViewLists) (edited : Option Document) → IsPlayed s shown (current s.presentation.document edited) → IsPlaying (cells_with s edited) shown
+pub cells_playing : (s : CellsState) (shown : List View) (edited : Option Document) → IsPlayed s shown (current s.presentation.document edited) → IsPlaying (cells_with s edited) shown
 cells_playing s shown edited is =
     let d = current s.presentation.document edited in
     let p = s.presentation in
@@ -186,11 +185,10 @@ cells_playing s shown edited is =
             ∙ same_of (λ ns. views (history_in ns p.log s.diary) (pos p.now)) (λ ns. views_same (history_in ns p.log s.diary) (pos p.now)) p.document.nodes d.nodes is.differ;
       };
       unmarked = is.playing.unmarked;
-      before = is.playing.before;
     }
 
 -- cells of their own document
-pub played_own : (s : CellsState) (shown : ViewLists) → IsPlaying s shown → IsPlayed s shown s.presentation.document
+pub played_own : (s : CellsState) (shown : List View) → IsPlaying s shown → IsPlayed s shown s.presentation.document
 played_own s shown is = record { playing = is; valid = is.shown_is.state.document; differ = refl }
 
 -- they are rebuilt in the same way
@@ -217,7 +215,7 @@ module _ (s : CellsState) (edited : Option Document) {document : Document} {len 
   }
 
 -- what comes is the same
-pub coming_with : (s : CellsState) (shown : ViewLists) (edited : Option Document) → IsPlayed s shown (current s.presentation.document edited)
+pub coming_with : (s : CellsState) (shown : List View) (edited : Option Document) → IsPlayed s shown (current s.presentation.document edited)
     → coming (history_of s) (pos s.presentation.now) ≡ coming (history_of (cells_with s edited)) (pos s.presentation.now)
 coming_with s shown edited is =
     let p = s.presentation in
@@ -245,7 +243,7 @@ twin_of old new serial n differ at = by_case (node_at (elements old) serial) ref
         record { twin = m; found = some; alike = cc }
 
 -- which has the same intervals
-pub listed_with : (s : CellsState) (shown : ViewLists) (edited : Option Document) (m n : Node) → IsPlayed s shown (current s.presentation.document edited) → without_texts m ≡ without_texts n
+pub listed_with : (s : CellsState) (shown : List View) (edited : Option Document) (m n : Node) → IsPlayed s shown (current s.presentation.document edited) → without_texts m ≡ without_texts n
     → intervals_of (history_of s) (pos s.presentation.now) m ≡ intervals_of (history_of (cells_with s edited)) (pos s.presentation.now) n
 listed_with s shown edited m n is alike =
     let p = s.presentation in
@@ -274,7 +272,7 @@ module _ (h : History) where
     iteration = v.iteration;
   }
 
-pub screen_with : (s : CellsState) (shown : ViewLists) (edited : Option Document) (v : View) → IsPlayed s shown (current s.presentation.document edited)
+pub screen_with : (s : CellsState) (shown : List View) (edited : Option Document) (v : View) → IsPlayed s shown (current s.presentation.document edited)
     → on_screen (history_of s) (pos s.presentation.now) v ≡ on_screen (history_of (cells_with s edited)) (pos s.presentation.now) v
 screen_with s shown edited v is =
     let p = s.presentation in

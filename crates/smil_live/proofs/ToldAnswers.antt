@@ -22,7 +22,6 @@ use Rattle.smil_past.proofs.ItemReferences.{kept_known as kept_found}
 use Rattle.smil_report.specs.Tellings.{as_text}
 use Rattle.smil_cells.specs.CellsState.{IsSettled, CellsState, history_of}
 use Rattle.smil_shown.specs.ShownViews.{IsPlaying}
-use Rattle.smil_shown.specs.ViewTable.{ViewLists}
 use Rattle.smil_shown.specs.Sets.{AreOfElements, AreSetsAmong, AreSetsOf, LayerTable}
 use Rattle.smil_live.specs.Telling.{element_named, layers_text}
 use Rattle.smil_live.specs.Texts.{IsPlayed, current}
@@ -36,16 +35,16 @@ use Rattle.smil_live.proofs.TextsApart.{IsTwin, cells_with, twin_of}
 -- ---- the views
 
 -- the views that are kept are those of the elements of the document
-pub kept_elements : (s : CellsState) (shown : ViewLists) (d : Document) (vs : List View) → IsPlaying s shown → d ≡ s.presentation.document → vs ≡ shown.views → AreOfElements d.nodes vs
+pub kept_elements : (s : CellsState) (shown : List View) (d : Document) (vs : List View) → IsPlaying s shown → d ≡ s.presentation.document → vs ≡ shown → AreOfElements d.nodes vs
 kept_elements s shown d vs playing same is = of_elements s d vs same (is ∙ playing.shown_is.views_are)
 
 -- and so are their layers
-pub kept_sets : (s : CellsState) (shown : ViewLists) (d : Document) (vs : List View) (sets : LayerTable) → IsPlaying s shown → d ≡ s.presentation.document → vs ≡ shown.views
+pub kept_sets : (s : CellsState) (shown : List View) (d : Document) (vs : List View) (sets : LayerTable) → IsPlaying s shown → d ≡ s.presentation.document → vs ≡ shown
     → AreSetsOf sets (layers d.nodes vs) → (all : List (ℕ × Layer)) × AreSetsAmong d.nodes sets all
 kept_sets s shown d vs sets playing same is are = (layers d.nodes vs, among d.nodes sets vs (kept_elements s shown d vs playing same is) are)
 
 -- the views are those of the presentation
-pub kept_views : (s : CellsState) (shown : ViewLists) (p : Presentation) (vs : List View) → IsPlaying s shown → s.presentation ≡ p → vs ≡ shown.views → vs ≡ views_of p
+pub kept_views : (s : CellsState) (shown : List View) (p : Presentation) (vs : List View) → IsPlaying s shown → s.presentation ≡ p → vs ≡ shown → vs ≡ views_of p
 kept_views s shown p vs playing same is =
     is ∙ playing.shown_is.views_are ∙ sym (views_are s.presentation s.diary playing.shown_is.settled) ∙ ap views_of same
 
@@ -127,7 +126,7 @@ named_element p d w n serial numbered same q own =
     }
 
 -- the element of the document that cells were made of, which has its serial
-pub twin_named : (s : CellsState) (shown : ViewLists) (edited : Option Document) (p : Presentation) → IsPlayed s shown (current s.presentation.document edited) → (cells_with s edited).presentation ≡ p
+pub twin_named : (s : CellsState) (shown : List View) (edited : Option Document) (p : Presentation) → IsPlayed s shown (current s.presentation.document edited) → (cells_with s edited).presentation ≡ p
     → (serial : ℕ) (w : Who) (n : Node) → element_named p w ≡ Ok n → serial ≡ n.serial → IsTwin s.presentation.document.nodes serial n
 twin_named s shown edited p is view serial w n q own =
     let d = current s.presentation.document edited in

@@ -18,9 +18,10 @@ use Rattle.smil_report.proofs.Growing.{begins_by, begins_itself}
 use Rattle.smil_instances.proofs.SiblingBefore.{distinct_elements}
 use Rattle.smil_cells.specs.CellsState.{GoesOn, CellsState}
 use Rattle.smil_shown.specs.ShownViews.{views_at}
-use Rattle.smil_shown.specs.ViewTable.{ViewLists, differs, has_view, view_in, view_now, with_view}
+use Rattle.smil_shown.specs.ViewTable.{differs, has_view, owners, put_in, view_in, view_now}
 use Rattle.smil_shown.specs.Told.{told_between, views_told}
 use Rattle.smil_shown.proofs.LinesTold.{difference_on, next_view}
+use Rattle.smil_shown.proofs.ViewPlaces.{owners_put}
 use Rattle.smil_live.proofs.PutViews.{AreLeft, IsTurn, OwnsIn, Stays, all_left, all_put, own_all, put_all, put_next, told_same, touched_of, touched_serials, turn_of}
 
 -- ---- the line of one view
@@ -42,18 +43,18 @@ module _ {I : Type 0} (tell : Telling I) where
   -- ---- turns
 
   -- some of the views are put in place, and told
-  pub record IsUnderWay (nodes : List Node) (m : ℕ) (first all : List View) (front : List I) (before : List View) (shown : ViewLists) (i : ℕ) (out : List I) : Type 0 where
-    pub left : AreLeft first all shown.views (drop i all)
+  pub record IsUnderWay (nodes : List Node) (m : ℕ) (first all : List View) (front : List I) (shown : List View) (i : ℕ) (out : List I) : Type 0 where
+    pub left : AreLeft first all shown (drop i all)
     pub told : out ++ told_between tell nodes m first (drop i all) ≡ front ++ told_between tell nodes m first all
-    pub before_is : shown.before ≡ before
+    pub owners_are : owners shown ≡ owners first
     pub begins : Begins front out
 
-  module _ (nodes : List Node) (m : ℕ) (first all : List View) (front : List I) (before : List View) where
-    pub way_begins : (shown : ViewLists) → shown.views ≡ first → shown.before ≡ before → AreLeft first all first all → IsUnderWay nodes m first all front before shown 0 front
-    way_begins shown views is left = record {
+  module _ (nodes : List Node) (m : ℕ) (first all : List View) (front : List I) where
+    pub way_begins : (shown : List View) → shown ≡ first → AreLeft first all first all → IsUnderWay nodes m first all front shown 0 front
+    way_begins shown views left = record {
       left = subst (λ (vs : List View). AreLeft first all vs (drop 0 all)) (sym views) (subst (λ (vs : List View). AreLeft first all first vs) (sym (none_off all)) left);
       told = ap (λ (vs : List View). front ++ told_between tell nodes m first vs) (none_off all);
-      before_is = is;
+      owners_are = ap (λ (vs : List View). owners vs) views;
       begins = begins_itself front;
     }
       where
@@ -65,23 +66,23 @@ module _ {I : Type 0} (tell : Telling I) where
     same_lines views v same = ap (λ (w : View). views_told tell nodes m (cond (not (view_eq v w)) (v ∷ []) [])) same
 
     -- the next view is put in place
-    pub way_on : (shown shown' : ViewLists) (i : ℕ) (d v : View) (out out' : List I) → IsUnderWay nodes m first all front before shown i out → i < length all → get_or all i d ≡ v
-        → shown' ≡ with_view shown v → out' ≡ out ++ told_between tell nodes m shown.views (v ∷ []) → Begins out out' → IsUnderWay nodes m first all front before shown' (i + 1) out'
+    pub way_on : (shown shown' : List View) (i : ℕ) (d v : View) (out out' : List I) → IsUnderWay nodes m first all front shown i out → i < length all → get_or all i d ≡ v
+        → shown' ≡ put_in shown v → out' ≡ out ++ told_between tell nodes m shown (v ∷ []) → Begins out out' → IsUnderWay nodes m first all front shown' (i + 1) out'
     way_on shown shown' i d v out out' way l is put told more = record {
-      left = subst (λ (vs : List View). AreLeft first all vs (drop (i + 1) all)) (sym (ap (λ (s : ViewLists). s.views) put)) (put_next first all shown.views (drop (i + 1) all) v left);
+      left = subst (λ (vs : List View). AreLeft first all vs (drop (i + 1) all)) (sym put) (put_next first all shown (drop (i + 1) all) v left);
       told = difference_on tell nodes m first all i d (front ++ told_between tell nodes m first all) out out' l way.told
-          (told ∙ (ap (λ x. out ++ x) (same_lines shown.views v left.stand.0.0) ∙ ap (λ x. out ++ told_between tell nodes m first (x ∷ [])) (sym is)));
-      before_is = ap (λ (s : ViewLists). s.before) put ∙ way.before_is;
+          (told ∙ (ap (λ x. out ++ x) (same_lines shown v left.stand.0.0) ∙ ap (λ x. out ++ told_between tell nodes m first (x ∷ [])) (sym is)));
+      owners_are = ap (λ (vs : List View). owners vs) put ∙ owners_put shown v ∙ way.owners_are;
       begins = begins_by front out out' way.begins more;
     }
       where
-        left : AreLeft first all shown.views (v ∷ drop (i + 1) all)
-        left = subst (λ (vs : List View). AreLeft first all shown.views vs) (next_view all i d l ∙ ap (λ x. x ∷ drop (i + 1) all) is) way.left
+        left : AreLeft first all shown (v ∷ drop (i + 1) all)
+        left = subst (λ (vs : List View). AreLeft first all shown vs) (next_view all i d l ∙ ap (λ x. x ∷ drop (i + 1) all) is) way.left
 
-    pub views_end : (shown : ViewLists) (i : ℕ) (out : List I) → IsUnderWay nodes m first all front before shown i out → length all ≤ i → shown.views ≡ put_all first all
-    views_end shown i out way l = ap (put_all shown.views) (sym (drop_of_length-le all l)) ∙ (way.left).put
+    pub views_end : (shown : List View) (i : ℕ) (out : List I) → IsUnderWay nodes m first all front shown i out → length all ≤ i → shown ≡ put_all first all
+    views_end shown i out way l = ap (put_all shown) (sym (drop_of_length-le all l)) ∙ (way.left).put
 
-    pub told_end : (shown : ViewLists) (i : ℕ) (out : List I) → IsUnderWay nodes m first all front before shown i out → length all ≤ i → out ≡ front ++ told_between tell nodes m first all
+    pub told_end : (shown : List View) (i : ℕ) (out : List I) → IsUnderWay nodes m first all front shown i out → length all ≤ i → out ≡ front ++ told_between tell nodes m first all
     told_end shown i out way l = sym (append-nil out) ∙ (ap (λ (vs : List View). out ++ told_between tell nodes m first vs) (sym (drop_of_length-le all l)) ∙ way.told)
 
 -- ---- from an earlier standing
@@ -162,9 +163,9 @@ pub where_not_err : {A E : Type 0} (r : Result A E) (P : Type 0) → is_err r �
 where_not_err (Ok x) P q p = p
 where_not_err (Err x) P q p = cc
 
-pub known_next : {I : Type 0} (tell : Telling I) (nodes : List Node) (m : ℕ) (first all : List View) (front : List I) (before : List View) (shown : ViewLists) (i : ℕ) (d : View) (out : List I)
-    → IsUnderWay tell nodes m first all front before shown i out → i < length all → has_view shown.views (get_or all i d).serial ≡ true
-known_next tell nodes m first all front before shown i d out way l = (left.stand.0).1
+pub known_next : {I : Type 0} (tell : Telling I) (nodes : List Node) (m : ℕ) (first all : List View) (front : List I) (shown : List View) (i : ℕ) (d : View) (out : List I)
+    → IsUnderWay tell nodes m first all front shown i out → i < length all → has_view shown (get_or all i d).serial ≡ true
+known_next tell nodes m first all front shown i d out way l = (left.stand.0).1
   where
-    left : AreLeft first all shown.views (get_or all i d ∷ drop (i + 1) all)
-    left = subst (λ (vs : List View). AreLeft first all shown.views vs) (next_view all i d l) way.left
+    left : AreLeft first all shown (get_or all i d ∷ drop (i + 1) all)
+    left = subst (λ (vs : List View). AreLeft first all shown vs) (next_view all i d l) way.left

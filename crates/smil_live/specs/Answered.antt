@@ -3,12 +3,13 @@ use Rattle.std.specs.Prelude.{◌≡◌, ◌≤◌, ◌-◌, ◌++◌, ℕ, Bool
 use Rattle.smil_model.specs.declared.diary.Happening.{Happening}
 use Rattle.smil_model.specs.declared.order.Order.{Order}
 use Rattle.smil_model.specs.declared.order.Refusal.{Refusal}
+use Rattle.smil_model.specs.declared.view.View.{View}
 use Rattle.smil_model.specs.shown.Answers.{MayEvaluate, Refuses}
 use Rattle.smil_model.specs.shown.Orders.{Presentation}
 use Rattle.smil_grammar.specs.Formats.{formats}
 use Rattle.smil_report.specs.Tellings.{Begins, Telling, Tells}
 use Rattle.smil_cells.specs.CellsState.{CellsState, WhereTold, fresh_since, reached_since}
-use Rattle.smil_shown.specs.ViewTable.{ViewLists}
+use Rattle.smil_shown.specs.ViewTable.{owners}
 use Rattle.smil_live.specs.Counted.{KeepsToCounts}
 use Rattle.smil_live.specs.Counts.{least_onward, most_onward}
 use Rattle.smil_live.specs.Moves.{IsHeardBy, IsNotHeard, IsShownAt, IsTooFull, changes_by, made, told_of}
@@ -43,16 +44,16 @@ pub record IsHeard {Item : Type 0} (telling : Telling Item) (counts : Bool) (wha
       → IfErr answer (λ refusal. MayEvaluate most refusal (now - start))
 
 -- cells go on by a move, and what it changes is told behind what was told before; where it is
--- refused, a mark of the cells and the views before it still stand
+-- refused, a mark of the cells still stands, and the views are of the same elements
 pub record IsMoved {Item : Type 0} (telling : Telling Item) (counts : Bool) (step : Move)
-    (answer : Result (Unit {0}) Refusal) (before after : CellsState) (shown left : ViewLists)
+    (answer : Result (Unit {0}) Refusal) (before after : CellsState) (shown left : List View)
     (old new : List Item) (start now : ℕ) : Type 0 where
   pub ok : OnOk answer (IsShownAt (made before.presentation step) after left)
   pub told : OnOk answer
       (new ≡ old ++ told_of telling before.presentation (changes_by before.presentation step))
   pub refused : IfErr answer (IsTooFull (made before.presentation step))
   pub marked : after.marked ≡ before.marked
-  pub before_is : left.before ≡ shown.before
+  pub owners_are : owners left ≡ owners shown
   pub begins : Begins old new
   pub counted : start ≤ now
   pub most : OnOk answer (WhereTold counts (now - start ≤ reached_since before after))

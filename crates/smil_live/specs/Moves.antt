@@ -17,7 +17,6 @@ use Rattle.smil_model.specs.shown.Orders.{Presentation, course_of, changes_betwe
 use Rattle.smil_report.specs.Tellings.{Telling, changes_told}
 use Rattle.smil_cells.specs.CellsState.{CellsState, IsSettled, first_at, with_logged}
 use Rattle.smil_shown.specs.ShownViews.{IsShown}
-use Rattle.smil_shown.specs.ViewTable.{ViewLists}
 use Rattle.smil_live.specs.declared.moves.Move.{Move}
 use Rattle.smil_live.specs.declared.moves.Move.TheVariants as move
 
@@ -99,7 +98,7 @@ edited_to p document = record { document = document; log = p.log; now = p.now }
 -- ---- what calls give
 
 -- settled cells of a presentation, with the views that they give
-pub record IsShownAt (p : Presentation) (s : CellsState) (shown : ViewLists) : Type 0 where
+pub record IsShownAt (p : Presentation) (s : CellsState) (shown : List View) : Type 0 where
   pub presentation_is : s.presentation ≡ p
   pub shown_is : IsShown s shown
 

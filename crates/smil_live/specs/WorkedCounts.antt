@@ -6,7 +6,7 @@ use Rattle.smil_model.specs.declared.document.Item.TheVariants.{Offset}
 use Rattle.smil_model.specs.declared.document.Kind.TheVariants.{Par, Img}
 use Rattle.smil_model.specs.declared.document.Node.{Node}
 use Rattle.smil_model.specs.declared.order.Order.{Order}
-use Rattle.smil_model.specs.declared.order.Order.TheVariants.{Advance, Seek, Set}
+use Rattle.smil_model.specs.declared.order.Order.TheVariants.{Advance, Seek, Set, Unset}
 use Rattle.smil_model.specs.declared.order.Who.TheVariants.{Serial}
 use Rattle.smil_model.specs.document.Document.{Document}
 use Rattle.smil_model.specs.document.Edits.{no_attrs}
@@ -44,6 +44,10 @@ at_moment now = record { document = two_branches; log = []; now = now }
 abbrev pub lengthened : Order
 lengthened = Set (Serial 3) (codes "dur") (codes "3ms") 7 11
 
+-- the first image is to have no title
+abbrev pub untitled : Order
+untitled = Unset (Serial 3) (codes "title") 9
+
 -- at the load each of the 5 elements gets an interval, and the begins of the root and of the
 -- branches reach 5, 3 and 3; in the advance the begin and the end of the image reach 2 each; the
 -- edit leaves the begin of the root and of the first branch as they were, so that besides the 5
@@ -58,3 +62,5 @@ pub record WorkedCounts : Type 0 where
   pub seek_at_least : least_number (at_moment 4) (Seek (pos 2)) ≡ 5
   pub set_at_most : most_number (at_moment 4) lengthened ≡ 12
   pub set_at_least : least_number (at_moment 4) lengthened ≡ 4
+  pub title_at_most : most_number (at_moment 4) untitled ≡ 0
+  pub title_at_least : least_number (at_moment 4) untitled ≡ 0

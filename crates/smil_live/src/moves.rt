@@ -187,13 +187,10 @@ impl<T: Table> PresentationOver<T> {
         viewer.cells.mark();
         let gone = viewer.go_on(step, out, steps);
         match gone {
-            Ok(()) => {
-                viewer.cells.forget();
-                viewer.seen.forget();
-            }
+            Ok(()) => viewer.cells.forget(),
             Err(_) => {
                 viewer.cells.back();
-                viewer.seen.back();
+                viewer.seen.renew(&viewer.cells);
                 out.cut_back(len);
             }
         }

@@ -9,7 +9,7 @@ ghost use Rattle.smil_cells.specs.CellsState.{GoesOn, NothingBefore, CellsState,
 ghost use Rattle.smil_shown.specs.ShownViews.{IsShown, views_at};
 ghost use Rattle.smil_live.specs.Answered.{IsMoved};
 ghost use Rattle.smil_live.specs.Moves.{IsFirstDue, MayMove};
-ghost use Rattle.smil_shown.specs.ViewTable.{has_view, view_now, with_view};
+ghost use Rattle.smil_shown.specs.ViewTable.{has_view, owners, put_in, view_now};
 ghost use Rattle.smil_shown.specs.Told.{told_between};
 
 use super::moves::Move;
@@ -39,8 +39,8 @@ impl<T: Table> Drop for Viewer<T> {
 
 impl<T: Table> Viewer<T> {
     /// Goes on by a move, and tells what it changes. `DiaryFull` where the diary would have too
-    /// many entries, `Memory` where memory runs out: after a refusal the cells and the views are to
-    /// go back to a mark, and `out` to its length.
+    /// many entries, `Memory` where memory runs out: after a refusal the cells are to go back to a
+    /// mark, the views to be those of the cells, and `out` to go back to its length.
     pub fn go_on<I: ChangeItem, L: Ledger>(
         &mut self,
         step: Move,
@@ -120,14 +120,14 @@ fn put_touched<T: Table, I: ChangeItem>(
     requires sound { cells.now.fault ≡ None }
     requires state { IsState cells.now.presentation }
     requires settled { IsSettled cells.now }
-    requires from { (old : CellsState) × GoesOn old cells.now × (seen.old.views ≡ views_at old)
+    requires from { (old : CellsState) × GoesOn old cells.now × (seen.old ≡ views_at old)
         × (cells.now.presentation.document ≡ old.presentation.document) }
-    ensures views { OnOk result (seen.new.views ≡ views_at cells.now) }
+    ensures views { OnOk result (seen.new ≡ views_at cells.now) }
     ensures told { OnOk result (out.new ≡ out.old
         ++ told_between I.telling cells.now.presentation.document.nodes cells.now.presentation.now
-        seen.old.views (views_at cells.now)) }
+        seen.old (views_at cells.now)) }
     ensures refused { IfErr result (λ refusal. refusal ≡ Refusal.Memory) }
-    ensures before { seen.new.before ≡ seen.old.before }
+    ensures owners { owners seen.new ≡ owners seen.old }
     ensures begins { Begins out.old out.new }
 {
     for serial in cells.touched().slice() {
@@ -148,18 +148,18 @@ fn put_one<T: Table, I: ChangeItem>(
     requires settled { IsSettled cells.now }
     requires element { (e : AnyNode)
         × (node_at (elements cells.now.presentation.document.nodes) serial ≡ Some e) }
-    requires known { has_view seen.old.views serial ≡ true }
+    requires known { has_view seen.old serial ≡ true }
     ensures view { (e : AnyNode) → node_at (elements cells.now.presentation.document.nodes) serial
-        ≡ Some e → OnOk result (seen.new ≡ with_view seen.old (view_now cells.now e)) }
+        ≡ Some e → seen.new ≡ put_in seen.old (view_now cells.now e) }
     ensures told { (e : AnyNode) → node_at (elements cells.now.presentation.document.nodes) serial
         ≡ Some e → OnOk result (out.new ≡ out.old
         ++ told_between I.telling cells.now.presentation.document.nodes cells.now.presentation.now
-        seen.old.views (view_now cells.now e ∷ [])) }
-    ensures before { seen.new.before ≡ seen.old.before }
+        seen.old (view_now cells.now e ∷ [])) }
+    ensures owners { owners seen.new ≡ owners seen.old }
     ensures begins { Begins out.old out.new }
 {
     let view = view_in(cells, serial);
-    if seen.put(&view)? {
+    if seen.put(&view) {
         let scene = Scene {
             tree: cells.tree(),
             moment: cells.moment(),

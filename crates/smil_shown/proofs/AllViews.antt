@@ -19,7 +19,7 @@ use Rattle.smil_instances.proofs.SiblingBefore.{distinct_elements, first_told}
 use Rattle.smil_cells.specs.CellsState.{CellsState}
 use Rattle.smil_shown.specs.Sets.{AreOfElements}
 use Rattle.smil_shown.specs.ShownViews.{views_at}
-use Rattle.smil_shown.specs.ViewTable.{AreOf, AreOne, has_view, view_now}
+use Rattle.smil_shown.specs.ViewTable.{AreAt, AreOf, AreOne, has_view, owners, view_now}
 use Rattle.smil_shown.proofs.LayersApart.{views_known}
 
 -- an element that stands at a place among all, with this serial
@@ -90,3 +90,21 @@ of_elements s d vs same is =
 
 pub of_nodes : (s : CellsState) (d : Document) (vs : List View) → d ≡ s.presentation.document → vs ≡ views_at s → AreOf d.nodes vs
 of_nodes s d vs same is = All-from_recursion (λ (v : View). IsSome (node_at d.nodes v.serial)) vs (views_known d.nodes vs (of_elements s d vs same is))
+
+-- ---- views put in anew
+
+owner_places : (vs : List View) (s : ℕ) → position (λ (v : View). v.serial == s) vs ≡ position (λ (n : ℕ). n == s) (owners vs)
+owner_places [] s = refl
+owner_places (v ∷ vs) s =
+    position_cons (λ (w : View). w.serial == s) v vs
+    ∙ ap (λ o. cond (v.serial == s) (Some 0) (option_map suc o)) (owner_places vs s)
+    ∙ sym (position_cons (λ (n : ℕ). n == s) v.serial (owners vs))
+
+-- the places of one view for each element are those of any others
+pub places_renewed : (s : CellsState) (places : ℕ → Option ℕ) (old : List View) → IsDistinct s.presentation.document.nodes → AreOfElements s.presentation.document.nodes old → AreAt places old → AreAt places (views_at s)
+places_renewed s places old distinct all at =
+    let es = elements s.presentation.document.nodes in
+    record {
+      place = λ k. at.place k ∙ owner_places old k ∙ ap (position (λ (n : ℕ). n == k)) all ∙ place_of_view (view_now s) (λ n. refl) es k;
+      one = one_each (view_now s) (λ n. refl) es (distinct_elements s.presentation.document.nodes distinct);
+    }

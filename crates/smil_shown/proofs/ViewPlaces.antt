@@ -9,7 +9,7 @@ use Rattle.std.proofs.lemmas.List.Sums.{passes_at_first}
 use Rattle.smil_model.specs.declared.view.View.{View}
 use Rattle.smil_model.specs.shown.Views.{blank}
 use Rattle.smil_model.specs.shown.Orders.{view_eq}
-use Rattle.smil_shown.specs.ViewTable.{put_in, put_back, view_in, has_view, differs, AreOne, AreAt}
+use Rattle.smil_shown.specs.ViewTable.{put_in, owners, view_in, has_view, differs, AreOne, AreAt}
 use Rattle.smil_shown.proofs.SameViews.{same_view}
 
 abbrev pub of : ℕ → View → Bool
@@ -139,18 +139,6 @@ put_same (v ∷ vs) (suc i) view one at =
     ap (λ (t : Bool). cond t view v ∷ put_in vs view) (apart v vs i view one.0 at)
     ∙ ap (λ l. v ∷ l) (put_same vs i view one.1 at)
 
--- putting the old one back
-put_twice : (views : List View) (view old : View) → old.serial ≡ view.serial → put_in (put_in views view) old ≡ put_in views old
-put_twice [] view old same = refl
-put_twice (v ∷ vs) view old same = by_test (of view.serial v) refl (put_twice vs view old same)
-  where
-    by_test : (t : Bool) → of view.serial v ≡ t → put_in (put_in vs view) old ≡ put_in vs old → cond (of old.serial (cond t view v)) old (cond t view v) ∷ put_in (put_in vs view) old ≡ cond (of old.serial v) old v ∷ put_in vs old
-    by_test true e below =
-        ap (λ (t : Bool). cond t old view ∷ put_in (put_in vs view) old) (eq-eqb view.serial old.serial (sym same))
-        ∙ (ap (λ l. old ∷ l) below
-        ∙ ap (λ (t : Bool). cond t old v ∷ put_in vs old) (sym (eq-eqb v.serial old.serial (eqb-true v.serial view.serial e ∙ sym same))))
-    by_test false e below = ap (λ l. cond (of old.serial v) old v ∷ l) below
-
 -- ---- no more elements, and no fewer
 
 pub has_put : (views : List View) (view : View) (s : ℕ) → has_view (put_in views view) s ≡ has_view views s
@@ -169,6 +157,11 @@ serial_put v view = by_test (of view.serial v) refl
     by_test : (t : Bool) → of view.serial v ≡ t → (cond t view v).serial ≡ v.serial
     by_test true e = sym (eqb-true v.serial view.serial e)
     by_test false e = refl
+
+pub owners_put : (views : List View) (view : View) → owners (put_in views view) ≡ owners views
+owners_put [] view = refl
+owners_put (v ∷ vs) view =
+    ap (λ (s : ℕ). s ∷ owners (put_in vs view)) (serial_put v view) ∙ ap (λ (ss : List ℕ). v.serial ∷ ss) (owners_put vs view)
 
 one_put : (views : List View) (view : View) → AreOne views → AreOne (put_in views view)
 one_put [] view one = tt
@@ -198,18 +191,6 @@ at_put places views view at = record {
   one = one_put views view at.one;
 }
 
--- ---- those that were noted
-
-back_last : (views noted : List View) (view : View) → put_back views (noted ++ view ∷ []) ≡ put_back (put_in views view) noted
-back_last views [] view = refl
-back_last views (n ∷ noted) view = ap (λ l. put_in l n) (back_last views noted view)
-
--- a view that is noted before another is put in its place
-back_noted : (views noted : List View) (i : ℕ) (old view : View) → AreOne views → slice_get views i ≡ Some old → old.serial ≡ view.serial → put_back (put_in views view) (noted ++ old ∷ []) ≡ put_back views noted
-back_noted views noted i old view one at same =
-    back_last (put_in views view) noted old
-    ∙ ap (λ l. put_back l noted) (put_twice views view old same ∙ put_same views i old one at)
-
 -- ---- what a call of `put` comes to
 
 pub differs_by : (views : List View) (i : ℕ) (old view : View) (b : Bool) → Some i ≡ position (of view.serial) views → old ≡ get_or views i old → b ≡ view_eq view old → not b ≡ differs views view
@@ -225,15 +206,3 @@ pub placed : (views : List View) (i : ℕ) (old view : View) → AreOne views �
 placed views i old view one q =
     let at = there view.serial views i q in
     put_at views i at.view view one at.at at.serial
-
-pub back_put : (views noted : List View) (i : ℕ) (old view : View) → AreOne views → Some i ≡ position (of view.serial) views → old ≡ get_or views i old → put_back (put_in views view) (noted ++ old ∷ []) ≡ put_back views noted
-back_put views noted i old view one q read =
-    let at = there view.serial views i q in
-    let is : slice_get views i ≡ Some old = slice_get-get_or views i old (place_is view.serial views i q).0 ∙ ap Some (sym read) in
-    back_noted views noted i old view one is (ap (λ (v : View). v.serial) (same_Some old at.view (sym is ∙ at.at)) ∙ at.serial)
-
--- ---- what a turn of `back` comes to
-
-pub last_back : (views noted before rest : List View) (view : View) → put_back views noted ≡ before → noted ≡ rest ++ view ∷ [] → put_back (put_in views view) rest ≡ before
-last_back views noted before rest view is last =
-    sym (back_last views rest view) ∙ (ap (put_back views) (sym last) ∙ is)

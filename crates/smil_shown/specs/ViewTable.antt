@@ -1,4 +1,4 @@
--- Views of elements, with those that `back` gives.
+-- Views of elements.
 use Rattle.std.specs.Prelude.{◌≡◌, ℕ, pos, List, [], ◌∷◌, ◌==◌, All, IsSome, map, Bool, false, not, Option, if◌then◌else◌}
 use Rattle.std.specs.List.{list_any, position}
 use Rattle.smil_model.specs.declared.document.Node.{Node}
@@ -9,11 +9,6 @@ use Rattle.smil_model.specs.shown.Views.{blank}
 use Rattle.smil_laws.specs.Same.{view_at}
 use Rattle.smil_cells.specs.CellsState.{CellsState, history_of}
 
--- the views in document order, and those that `back` gives, with each noted view in its place
-pub record ViewLists : Type 0 where
-  pub views : List View
-  pub before : List View
-
 -- the view of an element by the diary so far
 abbrev pub view_now : CellsState → Node → View
 view_now s e = view_at (history_of s) (pos s.presentation.now) e
@@ -22,10 +17,9 @@ view_now s e = view_at (history_of s) (pos s.presentation.now) e
 abbrev pub put_in : List View → View → List View
 put_in views view = map (λ (v : View). if v.serial == view.serial then view else v) views
 
--- views with those that were noted put back, the last noted first
-abbrev pub put_back : List View → List View → List View
-put_back views [] = views
-put_back views (view ∷ noted) = put_in (put_back views noted) view
+-- whose views these are
+abbrev pub owners : List View → List ℕ
+owners views = map (λ (v : View). v.serial) views
 
 -- the view of an element, blank where it is not there
 abbrev pub view_in : List View → ℕ → View
@@ -48,10 +42,6 @@ pub record AreAt (places : ℕ → Option ℕ) (views : List View) : Type 0 wher
 -- each view is that of a node
 abbrev pub AreOf : List Node → List View → Type 0
 AreOf nodes views = All (λ (v : View). IsSome (node_at nodes v.serial)) views
-
--- the views with one put in its place
-abbrev pub with_view : ViewLists → View → ViewLists
-with_view shown view = record { views = put_in shown.views view; before = shown.before }
 
 -- whether a view differs from that of the same element
 abbrev pub differs : List View → View → Bool

@@ -57,10 +57,10 @@ pub fn put_differences<I: ChangeItem>(
     after: &ViewTable,
     out: &mut GrowingList<I>,
 ) -> Result<(), AllocError>
-    requires { AreOf scene.tree.now.nodes after.now.views }
+    requires { AreOf scene.tree.now.nodes after.now }
     ensures ok { (m : ℕ) → scene.entry.moment ≡ pos m
         → OnOk result (out.new ≡ out.old ++ told_between I.telling scene.entry.tree.now.nodes m
-        before.now.views after.now.views) }
+        before.now after.now) }
     ensures err { OnErr result (Begins out.old out.new) }
 {
     for view in after.views() {
@@ -79,7 +79,7 @@ fn put_difference<I: ChangeItem>(
     requires { IsSome (node_at scene.tree.now.nodes view.now.serial) }
     ensures ok { (m : ℕ) → scene.entry.moment ≡ pos m
         → OnOk result (out.new ≡ out.old ++ told_between I.telling scene.entry.tree.now.nodes m
-        before.now.views (view.now ∷ [])) }
+        before.now (view.now ∷ [])) }
     ensures begins { OnOk result (Begins out.old out.new) }
     ensures err { OnErr result (out.new ≡ out.old) }
 {
@@ -97,9 +97,9 @@ pub fn put_views<I: ChangeItem>(
     seen: &ViewTable,
     out: &mut GrowingList<I>,
 ) -> Result<(), AllocError>
-    requires { AreOf scene.tree.now.nodes seen.now.views }
+    requires { AreOf scene.tree.now.nodes seen.now }
     ensures ok { (m : ℕ) → scene.entry.moment ≡ pos m → OnOk result (out.new ≡ out.old
-        ++ views_told I.telling scene.entry.tree.now.nodes m seen.now.views) }
+        ++ views_told I.telling scene.entry.tree.now.nodes m seen.now) }
     ensures err { OnErr result (Begins out.old out.new) }
 {
     for view in seen.views() {

@@ -1,13 +1,14 @@
 //! What is shown of each element.
 
-ghost use Rattle.std.specs.Prelude.{◌≡◌, [], None, Some, true, IfOk, OnOk, OnErr};
+ghost use Rattle.std.specs.Prelude.{◌≡◌, [], None, Some, true, IfOk};
 ghost use Rattle.smil_model.specs.declared.document.Node.{Node as AnyNode};
 ghost use Rattle.smil_model.specs.document.Document.{elements, node_at, serials};
 ghost use Rattle.smil_model.specs.shown.Orders.{IsState};
 ghost use Rattle.smil_model.specs.shown.Views.{blank};
 ghost use Rattle.smil_cells.specs.CellsState.{IsSettled};
+ghost use Rattle.smil_shown.specs.Sets.{AreOfElements};
 ghost use Rattle.smil_shown.specs.ShownViews.{views_at};
-ghost use Rattle.smil_shown.specs.ViewTable.{differs, has_view, view_in as view_among, view_now, with_view};
+ghost use Rattle.smil_shown.specs.ViewTable.{differs, has_view, owners, put_in, view_in as view_among, view_now};
 
 use super::same::is_same;
 use smil_cells::{Cells, Table};
@@ -17,12 +18,10 @@ use std::alloc::{AllocError, Global};
 use std::marker::Model;
 use std::rc::Rc;
 
-/// The views of elements in document order, one of each element. Where a view is changed, the one
-/// before is noted, until `back` or `forget`. Seen as the views, with those that `back` gives.
+/// The views of elements in document order, one of each element; seen as these.
 pub struct ViewTable {
     rows: Vec<View>,
     places: Rc<SerialTable>,
-    noted: Vec<View>,
 }
 
 impl Drop for ViewTable {
@@ -31,19 +30,19 @@ impl Drop for ViewTable {
         let ViewTable {
             rows: _rows,
             places: _places,
-            noted: _noted,
         } = self;
     }
 }
 
 impl Model for ViewTable {
+    ghost use Rattle.std.specs.Prelude.{List};
     ghost use Rattle.std.specs.FinMap.{get};
-    ghost use Rattle.smil_shown.specs.ViewTable.{ViewLists as AnyShown, AreAt, put_back};
+    ghost use Rattle.smil_model.specs.declared.view.View.{View as AnyView};
+    ghost use Rattle.smil_shown.specs.ViewTable.{AreAt};
 
-    ghost Value = { AnyShown };
+    ghost Value = { List AnyView };
 
-    ghost view = { λ s.
-        record { views = s.rows.items; before = put_back s.rows.items s.noted.items } };
+    ghost view = { λ s. s.rows.items };
 
     ghost invariant = { λ s. AreAt (get s.places.value) s.rows.items };
 }
@@ -51,12 +50,11 @@ impl Model for ViewTable {
 impl ViewTable {
     /// No views, unless memory runs out.
     pub fn none(alloc: Global) -> Result<ViewTable, AllocError>
-        ensures { IfOk result (λ seen. seen ≡ record { views = []; before = [] }) }
+        ensures { IfOk result (λ seen. seen ≡ []) }
     {
         Ok(ViewTable {
             rows: Vec::new(alloc),
             places: Rc::new(alloc, SerialTable::new(alloc))?,
-            noted: Vec::new(alloc),
         })
     }
 
@@ -66,23 +64,18 @@ impl ViewTable {
         requires sound { cells.now.fault ≡ None }
         requires state { IsState cells.now.presentation }
         requires settled { IsSettled cells.now }
-        ensures { IfOk result (λ seen. seen
-            ≡ record { views = views_at cells.now; before = views_at cells.now }) }
+        ensures { IfOk result (λ seen. seen ≡ views_at cells.now) }
     {
         let tree = cells.tree();
         tree.valid();
         let rows = views_of(alloc, cells, tree.elements())?;
         let places = cells.past().syncs().places().clone()?;
-        Ok(ViewTable {
-            rows,
-            places,
-            noted: Vec::new(alloc),
-        })
+        Ok(ViewTable { rows, places })
     }
 
     /// The views, in document order. It takes no memory.
     pub fn views(&self) -> &[View]
-        ensures { result.now ≡ self.now.views }
+        ensures { result.now ≡ self.now }
     {
         &self.rows
     }
@@ -90,7 +83,7 @@ impl ViewTable {
     /// The view of an element; where it is not among them a blank one, idle and without times. It
     /// takes no memory.
     pub fn view(&self, serial: u32) -> View
-        ensures { result ≡ view_among self.now.views serial }
+        ensures { result ≡ view_among self.now serial }
     {
         match self.places.get(serial) {
             Some(place) => self.rows[place],
@@ -98,41 +91,47 @@ impl ViewTable {
         }
     }
 
-    /// Puts a view in the place of the one that the element has, where the two differ, and tells
-    /// whether they do; the old one is noted then. Where memory runs out all is as before.
-    pub fn put(&mut self, view: &View) -> Result<bool, AllocError>
-        requires { has_view self.old.views view.now.serial ≡ true }
-        ensures differs { IfOk result (λ different. different ≡ differs self.old.views view.now) }
-        ensures ok { OnOk result (self.new ≡ with_view self.old view.now) }
-        ensures err { OnErr result (self.new ≡ self.old) }
+    /// Puts a view in the place of the one that the element has, and tells whether the two differ.
+    /// It takes no memory.
+    pub fn put(&mut self, view: &View) -> bool
+        requires { has_view self.old view.now.serial ≡ true }
+        ensures differs { result ≡ differs self.old view.now }
+        ensures put { self.new ≡ put_in self.old view.now }
+        ensures owners { owners self.new ≡ owners self.old }
     {
         let place = self.places.get(view.serial).unwrap();
         if is_same(view, &self.rows[place]) {
-            return Ok(false);
+            return false;
         }
-        self.noted.push(self.rows[place])?;
         self.rows[place] = *view;
-        Ok(true)
+        true
     }
 
-    /// Puts back the views that were noted; none is noted afterwards. It takes no memory.
+    /// Puts in the views of the elements at the present moment. There is one for each element of
+    /// the cells, which answered no refusal and are settled. It takes no memory.
     #[cold]
-    pub fn back(&mut self)
-        ensures { self.new ≡ record { views = self.old.before; before = self.old.before } }
+    pub fn renew<T: Table>(&mut self, cells: &Cells<T>)
+        requires sound { cells.now.fault ≡ None }
+        requires state { IsState cells.now.presentation }
+        requires settled { IsSettled cells.now }
+        requires all { AreOfElements cells.now.presentation.document.nodes self.old }
+        ensures { self.new ≡ views_at cells.now }
     {
-        while let Some(view) = self.noted.pop() {
-            if let Some(place) = self.places.get(view.serial) {
-                self.rows[place] = view;
-            }
-        }
+        renew_all(&mut self.rows, cells);
     }
+}
 
-    /// Forgets the views that were noted, so that `back` gives the present ones. It takes no
-    /// memory.
-    pub fn forget(&mut self)
-        ensures { self.new ≡ record { views = self.old.views; before = self.old.views } }
-    {
-        self.noted.clear();
+// Puts in the views of the elements of views at the present moment.
+fn renew_all<T: Table>(rows: &mut Vec<View>, cells: &Cells<T>)
+    requires sound { cells.now.fault ≡ None }
+    requires state { IsState cells.now.presentation }
+    requires settled { IsSettled cells.now }
+    requires all { AreOfElements cells.now.presentation.document.nodes rows.old.items }
+    ensures { rows.new.items ≡ views_at cells.now }
+{
+    for place in 0..rows.len() {
+        let serial = rows[place].serial;
+        rows[place] = view_in(cells, serial);
     }
 }
 

@@ -13,8 +13,8 @@ pub put-requires : goal.put-requires
 put-requires g c =
     let e = c.requires.element in
     let es = elements c.args.cells.now.presentation.document.nodes in
-    subst (λ v. has_view c.args.seen.now.views v.serial ≡ _) (sym (c.view_in-view.ensures e.0 e.1))
-    (subst (λ s. has_view c.args.seen.now.views s ≡ _) (sym (own_serial es c.args.serial e.0 e.1)) c.requires.known)
+    subst (λ v. has_view c.args.seen.now v.serial ≡ _) (sym (c.view_in-view.ensures e.0 e.1))
+    (subst (λ s. has_view c.args.seen.now s ≡ _) (sym (own_serial es c.args.serial e.0 e.1)) c.requires.known)
 
 pub put_view-requires : goal.put_view-requires
 put_view-requires g c =
@@ -24,17 +24,17 @@ put_view-requires g c =
     (subst (λ v. IsSome (node_at nodes v.serial)) (sym (c.view_in-view.ensures e.0 e.1))
     (subst (λ s. IsSome (node_at nodes s)) (sym (own_serial (elements nodes) c.args.serial e.0 e.1)) (ap is_some (element_in nodes c.args.serial e.0 c.requires.state.document.numbered.distinct e.1))))
 
-pub returns-then-branch-clause-told : goal.returns-then-branch-clause-told
-returns-then-branch-clause-told g c = λ e at.
+pub returns-then-put-clause-told : goal.returns-then-put-clause-told
+returns-then-put-clause-told g c = λ e at.
     let s = c.args.cells.now in
     let v = c.view_in-view.result in
     let fits : SFits w64 c.moment.result = search rules in
-    let differ = sym c.in_ok-put.ensures.differs ∙ c.if-branch.true in
-    on_line g.I.ChangeItem.telling c.put_view.result c.tree.result.now s.presentation.document s.presentation.now _ c.args.seen.now.views v (view_now s e) c.args.out.now c.put_view.new.out c.tree.ensures
+    let differ = sym c.put.ensures.differs ∙ c.if-put.true in
+    on_line g.I.ChangeItem.telling c.put_view.result c.tree.result.now s.presentation.document s.presentation.now _ c.args.seen.now v (view_now s e) c.args.out.now c.put_view.new.out c.tree.ensures
     (to_z-of_z w64 c.moment.result fits ∙ c.moment.ensures) (c.view_in-view.ensures e at) differ c.put_view.ensures.ok
 
-pub returns-else-branch-clause-told : goal.returns-else-branch-clause-told
-returns-else-branch-clause-told g c = λ e at.
+pub returns-else-put-clause-told : goal.returns-else-put-clause-told
+returns-else-put-clause-told g c = λ e at.
     let s = c.args.cells.now in
-    let differ = sym c.in_ok-put.ensures.differs ∙ c.if-branch.false in
-    no_line g.I.ChangeItem.telling s.presentation.document.nodes s.presentation.now c.args.seen.now.views c.view_in-view.result (view_now s e) c.args.out.now (c.view_in-view.ensures e at) differ
+    let differ = sym c.put.ensures.differs ∙ c.if-put.false in
+    no_line g.I.ChangeItem.telling s.presentation.document.nodes s.presentation.now c.args.seen.now c.view_in-view.result (view_now s e) c.args.out.now (c.view_in-view.ensures e at) differ

@@ -13,4 +13,6 @@ returns c = record {
   seek_at_least = refl;
   set_at_most = refl;
   set_at_least = refl;
+  title_at_most = refl;
+  title_at_least = refl;
 }

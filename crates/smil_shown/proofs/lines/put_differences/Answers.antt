@@ -9,8 +9,8 @@ use Rattle.smil_shown.proofs.lines.put_differences.Goals as goal
 pub loop-view-preserved : goal.loop-view-preserved
 loop-view-preserved g c =
     let nodes = c.args.scene.tree.now.nodes in
-    let views = c.args.after.now.views in
-    let before = c.args.before.now.views in
+    let views = c.args.after.now in
+    let before = c.args.before.now in
     let i = c.loop-view.view-index in
     let same = c.views-view-items.ensures in
     record {

@@ -1,17 +1,15 @@
-use Rattle.std.proofs.Common.{◌≡◌, ◌∙◌, ap, sym, subst, ◌-◌, ◌++◌, ℕ, List, Some, Result}
+use Rattle.std.proofs.Common.{◌≡◌, ◌∙◌, ap, sym, subst, ◌-◌, ◌++◌, ℕ, Result}
 use Rattle.std.proofs.lemmas.Result.{IfErr-weaker}
 use Rattle.std.specs.Prelude.{OnErr, OnOk, ◌≤◌}
-use Rattle.smil_model.specs.declared.diary.Entry.{Entry}
 use Rattle.smil_model.specs.declared.order.Refusal.{Refusal}
 use Rattle.smil_model.specs.shown.Orders.{Presentation}
 use Rattle.smil_text_laws.specs.PlainTexts.{with_document}
 use Rattle.smil_cells.specs.CellsState.{CellsState, WhereTold}
-use Rattle.smil_cells.specs.Standings.{at_mark}
 use Rattle.smil_live.specs.Moves.{IsTooFull, MayMove, changes_by, made, told_of}
 use Rattle.smil_live.specs.Texts.{IsPlayed, current}
 use Rattle.smil_live.proofs.CellCounts.{least_made, most_made}
 use Rattle.smil_live.proofs.EditedPresentations.{on_err_always, on_ok_always}
-use Rattle.smil_live.proofs.MadeMoves.{plays_again, plays_on, shown_marked}
+use Rattle.smil_live.proofs.MadeMoves.{back_is, owned_again, plays_again, plays_on, settled_again, shown_marked, sound_again, state_again}
 use Rattle.smil_live.proofs.TextMoves.{document_made, full_there, least_there, may_there, most_there, played_then, state_there, told_there}
 use Rattle.smil_live.proofs.TextsApart.{cells_with}
 use Rattle.smil_live.proofs.presentation.PresentationOver.go.Goals as goal
@@ -26,10 +24,26 @@ pub go_on-gone-requires-clause-shown : goal.go_on-gone-requires-clause-shown
 go_on-gone-requires-clause-shown g c =
     shown_marked c.self.inside.viewer.cells c.mark.new.self c.self.inside.viewer.seen c.self.invariant.playing.shown_is c.mark.ensures
 
--- cells that were taken back are those of before, but for what they touched
-back_is : (old marked gone back : CellsState) → marked ≡ record old { marked = Some (old.presentation, old.diary) } → gone.marked ≡ marked.marked
-    → ((mark : Presentation × List Entry) → gone.marked ≡ Some mark → back ≡ at_mark gone.touched mark) → back ≡ at_mark gone.touched (old.presentation, old.diary)
-back_is old marked gone back is kept undone = undone (old.presentation, old.diary) (kept ∙ ap (λ (s : CellsState). s.marked) is)
+pub renew-requires-clause-sound : goal.renew-requires-clause-sound
+renew-requires-clause-sound g c =
+    let s = c.self.inside.viewer.cells in
+    sound_again s c.mark.new.self c.go_on-gone.new.self.cells c.back.new.self c.self.inside.viewer.seen c.go_on-gone.new.self.seen c.self.invariant.playing c.mark.ensures c.go_on-gone.ensures.marked c.back.ensures
+
+pub renew-requires-clause-state : goal.renew-requires-clause-state
+renew-requires-clause-state g c =
+    let s = c.self.inside.viewer.cells in
+    state_again s c.mark.new.self c.go_on-gone.new.self.cells c.back.new.self c.self.inside.viewer.seen c.go_on-gone.new.self.seen c.self.invariant.playing c.mark.ensures c.go_on-gone.ensures.marked c.back.ensures
+
+pub renew-requires-clause-settled : goal.renew-requires-clause-settled
+renew-requires-clause-settled g c =
+    let s = c.self.inside.viewer.cells in
+    settled_again s c.mark.new.self c.go_on-gone.new.self.cells c.back.new.self c.self.inside.viewer.seen c.go_on-gone.new.self.seen c.self.invariant.playing c.mark.ensures c.go_on-gone.ensures.marked c.back.ensures
+
+pub renew-requires-clause-all : goal.renew-requires-clause-all
+renew-requires-clause-all g c =
+    let s = c.self.inside.viewer.cells in
+    owned_again s c.mark.new.self c.go_on-gone.new.self.cells c.back.new.self c.self.inside.viewer.seen c.go_on-gone.new.self.seen c.self.invariant.playing c.mark.ensures c.go_on-gone.ensures.marked c.back.ensures
+    c.go_on-gone.ensures.owners_are
 
 pub invariant_of-self : goal.invariant_of-self
 invariant_of-self g c =
@@ -37,16 +51,16 @@ invariant_of-self g c =
     elim c.match-gone.branch [
       | in-Ok w ↦
           subst (λ i. IsPlayed i.viewer.cells i.viewer.seen (current i.viewer.cells.presentation.document i.edited)) (sym w.self-inside-is)
-          (played_then s w.forget.new.self c.self.inside.viewer.seen w.forget-in-Ok.new.self c.self.inside.edited c.self.invariant
-          (plays_on (made c.mark.new.self.presentation c.args.step) c.go_on-gone.new.self.cells w.forget.new.self c.go_on-gone.new.self.seen w.forget-in-Ok.new.self w.in-Ok.ensures.ok w.forget.ensures w.forget-in-Ok.ensures)
+          (played_then s w.forget.new.self c.self.inside.viewer.seen c.go_on-gone.new.self.seen c.self.inside.edited c.self.invariant
+          (plays_on (made c.mark.new.self.presentation c.args.step) c.go_on-gone.new.self.cells w.forget.new.self c.go_on-gone.new.self.seen w.in-Ok.ensures.ok w.forget.ensures)
           (ap (λ (u : CellsState). u.presentation.document) w.forget.ensures
           ∙ (ap (λ (q : Presentation). q.document) w.in-Ok.ensures.ok.presentation_is ∙ (document_made c.mark.new.self.presentation c.args.step ∙ ap (λ (u : CellsState). u.presentation.document) c.mark.ensures))))
       | in-Err w ↦
           subst (λ i. IsPlayed i.viewer.cells i.viewer.seen (current i.viewer.cells.presentation.document i.edited)) (sym w.self-inside-is)
-          (played_then s w.back.new.self c.self.inside.viewer.seen w.back-in-Err.new.self c.self.inside.edited c.self.invariant
-          (plays_again s c.mark.new.self c.go_on-gone.new.self.cells w.back.new.self c.self.inside.viewer.seen c.go_on-gone.new.self.seen w.back-in-Err.new.self c.self.invariant.playing c.mark.ensures c.go_on-gone.ensures.marked w.back.ensures
-          c.go_on-gone.ensures.before_is w.back-in-Err.ensures)
-          (ap (λ (u : CellsState). u.presentation.document) (back_is s c.mark.new.self c.go_on-gone.new.self.cells w.back.new.self c.mark.ensures c.go_on-gone.ensures.marked w.back.ensures)))
+          (played_then s w.back.new.self c.self.inside.viewer.seen w.renew.new.self c.self.inside.edited c.self.invariant
+          (plays_again s c.mark.new.self c.go_on-gone.new.self.cells w.back.new.self c.self.inside.viewer.seen c.go_on-gone.new.self.seen c.self.invariant.playing c.mark.ensures c.go_on-gone.ensures.marked w.back.ensures
+          w.renew.new.self w.renew.ensures)
+          (ap (λ (u : CellsState). u.presentation.document) (back_is s c.mark.new.self c.go_on-gone.new.self.cells w.back.new.self c.self.inside.viewer.seen c.go_on-gone.new.self.seen c.self.invariant.playing c.mark.ensures c.go_on-gone.ensures.marked w.back.ensures)))
     ]
 
 pub returns-clause-state : goal.returns-clause-state
@@ -91,7 +105,7 @@ returns-clause-kept g c =
       | in-Err w ↦
           on_err_always c.go_on-gone.result
           (ap (λ i. with_document i.viewer.cells.presentation (current i.viewer.cells.presentation.document i.edited)) w.self-inside-is
-          ∙ (ap (λ (u : CellsState). (cells_with u c.self.inside.edited).presentation) (back_is s c.mark.new.self c.go_on-gone.new.self.cells w.back.new.self c.mark.ensures c.go_on-gone.ensures.marked w.back.ensures)
+          ∙ (ap (λ (u : CellsState). (cells_with u c.self.inside.edited).presentation) (back_is s c.mark.new.self c.go_on-gone.new.self.cells w.back.new.self c.self.inside.viewer.seen c.go_on-gone.new.self.seen c.self.invariant.playing c.mark.ensures c.go_on-gone.ensures.marked w.back.ensures)
           ∙ c.self.view_is))
     ]
 

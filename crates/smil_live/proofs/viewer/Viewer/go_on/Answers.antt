@@ -64,10 +64,10 @@ returns-in_ok-hear-in-Hear g c =
           (shown_behind r q c.hear.new.self c.put_touched.new.seen heard.state state heard.goes_on.sound heard.settled put.views);
       told =
           subst (λ (m : Move). OnOk r (c.put_touched.new.out ≡ c.args.out.now ++ told_of tell p (changes_by p m))) (sym c.in-Hear.is)
-          (told_behind tell r s c.hear.new.self q c.args.self.now.seen.views c.args.out.now c.put_touched.new.out heard.state refl c.requires.shown.views_are c.requires.shown.settled heard.settled put.told);
+          (told_behind tell r s c.hear.new.self q c.args.self.now.seen c.args.out.now c.put_touched.new.out heard.state refl c.requires.shown.views_are c.requires.shown.settled heard.settled put.told);
       refused = search rules;
       marked = search rules;
-      before_is = put.before;
+      owners_are = put.owners;
       begins = put.begins;
       counted = search rules;
       most = on_ok_always r heard.most;
@@ -82,4 +82,4 @@ returns-in_err-hear-in-Hear g c =
     let refused =
     subst (λ (m : Move). IfErr c.from_residual.result (IsTooFull (made s.presentation m))) (sym c.in-Hear.is)
     (on_err (IsTooFull q) c.from_residual.result (of_book fault) c.from_residual.ensures.1 (refused_as q q s fault c.requires.shown.sound c.in_err-hear-in-Hear.ensures.full (λ none. none))) in
-    record { ok = search rules; told = search rules; refused = refused; marked = search rules; before_is = refl; begins = begins_itself c.args.out.now; counted = search rules; most = search rules; least = search rules }
+    record { ok = search rules; told = search rules; refused = refused; marked = search rules; owners_are = refl; begins = begins_itself c.args.out.now; counted = search rules; most = search rules; least = search rules }

@@ -58,7 +58,7 @@ returns-in_err-settle_once g c =
     (subst (λ (x : ℤ). IsTooFull (as_of p (nat_abs x)) given) (to_z-of_z w64 c.args.to c.ranges.to)
     (too_full_then v.0 c.in-Some.ensures.first c.in-Some.ensures.within given
     (subst (λ (x : ℤ). IsTooFull (as_of s.presentation (nat_abs x)) given) (whole g (goal.at.returns-in_err-settle_once g c).In-Some) e.refused))) in
-    record { ok = search rules; told = search rules; refused = refused; marked = e.marked ∙ v.3; before_is = e.before_is ∙ v.4; begins = begins_by c.args.out.now c.loop-due.out c.settle_once.new.out v.5 e.begins; counted = search rules; most = search rules; least = search rules }
+    record { ok = search rules; told = search rules; refused = refused; marked = e.marked ∙ v.3; owners_are = e.owners_are ∙ v.4; begins = begins_by c.args.out.now c.loop-due.out c.settle_once.new.out v.5 e.begins; counted = search rules; most = search rules; least = search rules }
 
 -- the standing at that moment, and what is told there
 there : (g : Over) (c : In_ok-settle_once g) → to_z w64 (of_z w64 c.in-Some.due) ≡ c.in-Some.due → IsShownAt (as_of c.loop-due.self.cells.presentation (nat_abs c.in-Some.due)) c.settle_once.new.self.cells c.settle_once.new.self.seen
@@ -85,7 +85,7 @@ loop-due-preserved g c =
       refl,
       v.2,
       e.marked ∙ v.3,
-      e.before_is ∙ v.4,
+      e.owners_are ∙ v.4,
       begins_by c.args.out.now c.loop-due.out c.settle_once.new.out v.5 e.begins,
       counted_then g.T.Table.counts c.args.self.now.cells c.loop-due.self.cells c.settle_once.new.self.cells _ c.settle_once.new.self.seen c.args.steps.now c.loop-due.steps c.settle_once.new.steps v.0.presentation_is v.6 e.counted e.ok
           c.in_ok-settle_once.ensures.goes_on e.most e.least,
@@ -115,7 +115,7 @@ returns g c =
           e.told;
       refused = search rules;
       marked = e.marked ∙ v.3;
-      before_is = e.before_is ∙ v.4;
+      owners_are = e.owners_are ∙ v.4;
       begins = begins_by c.args.out.now c.loop-due.out c.settle_once-2.new.out v.5 e.begins;
       counted = search rules;
       most = on_ok_weaker r (λ (is : IsCounted g.T.Table.counts c.args.self.now.cells c.settle_once-2.new.self.cells c.args.steps.now c.settle_once-2.new.steps). is.most) (counted g c);

@@ -2,6 +2,7 @@ use Rattle.std.proofs.Common.{◌≡◌, ◌-◌}
 use Rattle.std.specs.Prelude.{nat_abs, ◌≤ℤ◌}
 use Rattle.smil_model.specs.declared.times.TheConstants.{HORIZON}
 use Rattle.smil_report.specs.Tellings.{Begins}
+use Rattle.smil_shown.specs.ViewTable.{owners}
 use Rattle.smil_live.proofs.CellCounts.{IsCounted}
 use Rattle.smil_live.proofs.MomentsPassed.{IsPassing}
 use Rattle.smil_live.proofs.viewer.Viewer.pass_through.Given as goal
@@ -12,7 +13,7 @@ invariant-loop-due g l =
     × (l.to ≡ l.initial.to)
     × (l.to ≤ℤ HORIZON)
     × (l.self.cells.marked ≡ l.initial.self.cells.marked)
-    × (l.self.seen.before ≡ l.initial.self.seen.before)
+    × (owners l.self.seen ≡ owners l.initial.self.seen)
     × Begins l.initial.out l.out
     × IsCounted g.T.Table.counts l.initial.self.cells l.self.cells l.initial.steps l.steps
 

@@ -13,7 +13,7 @@ pub returns-in_err-put_all_gone-clause-err : goal.returns-in_err-put_all_gone-cl
 returns-in_err-put_all_gone-clause-err g c = on_err_always c.from_residual.result c.in_err-put_all_gone.ensures.err
 
 pub put_differences-requires : goal.put_differences-requires
-put_differences-requires g c = of_nodes c.args.cells.now c.tree-3.result.now c.args.seen.now.views c.tree-3.ensures c.requires.after.shown_is.views_are
+put_differences-requires g c = of_nodes c.args.cells.now c.tree-3.result.now c.args.seen.now c.tree-3.ensures c.requires.after.shown_is.views_are
 
 pub returns-clause-ok : goal.returns-clause-ok
 returns-clause-ok g c =
@@ -22,7 +22,7 @@ returns-clause-ok g c =
     let after = c.requires.after.shown_is.views_are ∙ views_settled c.args.cells.now c.requires.after.shown_is.settled in
     on_ok_weaker c.put_differences.result
     (told_edited g.I.ChangeItem.telling c.args.self.now.cells.presentation c.args.cells.now.presentation c.tree.result.now c.tree-2.result.now c.tree-3.result.now (to_z w64 (of_z w64 c.moment-now.result))
-    c.args.self.now.seen.views c.args.seen.now.views c.args.out.now c.put_all_gone.new.out c.put_differences.new.out
+    c.args.self.now.seen c.args.seen.now c.args.out.now c.put_all_gone.new.out c.put_differences.new.out
     c.tree.ensures c.tree-2.ensures c.tree-3.ensures now before after c.in_ok-put_all_gone.ensures.ok)
     (c.put_differences.ensures.ok c.args.cells.now.presentation.now now)
 

@@ -35,10 +35,10 @@ returns-clause-moved g c =
     record {
       ok = shown_behind r q c.settle.new.self c.put_touched.new.seen is state settled.goes_on.sound settled.settled put.views;
       told =
-          told_behind g.I.ChangeItem.telling r s c.settle.new.self q c.args.self.now.seen.views c.args.out.now c.put_touched.new.out is refl c.requires.shown.views_are c.requires.shown.settled settled.settled put.told;
+          told_behind g.I.ChangeItem.telling r s c.settle.new.self q c.args.self.now.seen c.args.out.now c.put_touched.new.out is refl c.requires.shown.views_are c.requires.shown.settled settled.settled put.told;
       refused = search rules;
       marked = search rules;
-      before_is = put.before;
+      owners_are = put.owners;
       begins = put.begins;
       counted = search rules;
       most = on_ok_always r settled.most;
@@ -58,4 +58,4 @@ returns-in_err-settle-clause-moved g c =
     (refused_as q q s fault c.requires.shown.sound
     (subst (λ (z : ℤ). fault ≡ DiaryFull → (s.fault ≡ Some fault) ⊎ (diary_of (course_of (as_of s.presentation (nat_abs z))) ≡ None)) (to_z-of_z w64 c.args.to c.ranges.to) c.in_err-settle.ensures.full)
     (λ none. none)) in
-    record { ok = search rules; told = search rules; refused = refused; marked = search rules; before_is = refl; begins = begins_itself c.args.out.now; counted = search rules; most = search rules; least = search rules }
+    record { ok = search rules; told = search rules; refused = refused; marked = search rules; owners_are = refl; begins = begins_itself c.args.out.now; counted = search rules; most = search rules; least = search rules }

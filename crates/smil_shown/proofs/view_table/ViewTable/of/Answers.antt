@@ -8,7 +8,7 @@ use Rattle.smil_model.specs.diary.Diary.{History}
 use Rattle.smil_model.specs.document.Document.{Document, elements, serials}
 use Rattle.smil_instances.specs.Spread.{IsIndex}
 use Rattle.smil_instances.proofs.SiblingBefore.{distinct_elements}
-use Rattle.smil_shown.specs.ViewTable.{AreOne, put_back, view_now}
+use Rattle.smil_shown.specs.ViewTable.{AreOne, view_now}
 use Rattle.smil_shown.proofs.AllViews.{one_each, view_places}
 use Rattle.smil_shown.proofs.view_table.ViewTable.of.Goals as goal
 
@@ -28,8 +28,3 @@ invariant_of-result g c =
       place = λ s. view_places f (λ n. refl) nodes (get c.in_ok-places.places.value) distinct index s ∙ ap (position (λ (v : View). v.serial == s)) (sym c.in_ok-rows.ensures);
       one = subst AreOne (sym c.in_ok-rows.ensures) (one_each f (λ n. refl) (elements nodes) (distinct_elements nodes distinct));
     }
-
-pub returns : goal.returns
-returns g c =
-    ap (λ (noted : List View). record { views = c.in_ok-rows.rows.items; before = put_back c.in_ok-rows.rows.items noted }) c.new.ensures.items
-    ∙ ap (λ (vs : List View). record { views = vs; before = vs }) c.in_ok-rows.ensures
