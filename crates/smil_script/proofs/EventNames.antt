@@ -1,6 +1,6 @@
 -- Names of events are those that an order may name.
 use Rattle.std.proofs.Common.{◌≡◌, ℕ, ◌<◌, Bool, true, false, cond, not, eqb, leb, ◌&&◌, ◌||◌, List, [], ◌∷◌, length, take, Some, None, is_some, Result, Ok, Err, refl, subst, arith}
-use Rattle.std.specs.Prelude.{bytes_eq, codes, IfOk}
+use Rattle.std.specs.Prelude.{bytes_eq, codes, OnOk}
 use Rattle.std.specs.List.{list_any}
 use Rattle.std.proofs.lemmas.Bool.{le-leb, eqb-true}
 use Rattle.std.proofs.lemmas.List.{take_all}
@@ -47,6 +47,6 @@ from_test false true false text P h next = next refl refl refl
 pub event_given : (text : List ℕ) → is_some (event_of text) ≡ true → (is_event_name text && not (is_raised_name text)) ≡ true
 event_given text h = from_test (eqb (length text) 0) (eqb (name_len text) (length text)) (list_any (bytes_eq text) other_names) text ((is_event_name text && not (is_raised_name text)) ≡ true) h (event_is text)
 
-pub owned : (r : Result (List ℕ) Refusal) (text : List ℕ) → IfOk r (λ bytes. bytes ≡ text) → (is_event_name text && not (is_raised_name text)) ≡ true → IfOk r (λ name. (is_event_name name && not (is_raised_name name)) ≡ true)
-owned (Ok x) text e h = rw e h
-owned (Err e) text same h = tt
+pub put_name : (r : Result (Unit {0}) Refusal) (name text : List ℕ) → OnOk r (name ≡ text) → (is_event_name text && not (is_raised_name text)) ≡ true → OnOk r ((is_event_name name && not (is_raised_name name)) ≡ true)
+put_name (Ok done) name text same h = rw same h
+put_name (Err e) name text same h = tt

@@ -1,3 +1,4 @@
 pub mod CopiedLines
+pub mod EventLines
 pub mod EventNames
 pub mod SerialNumbers

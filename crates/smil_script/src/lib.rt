@@ -2,6 +2,7 @@
 #![tactic(auto)]
 
 mod entries;
+mod last_order;
 mod lines;
 mod orders;
 mod piece;
@@ -9,6 +10,7 @@ mod verbs;
 mod words;
 
 pub use entries::{DiaryLine, VALUE_DIGITS, read_diary_line};
-pub use lines::{ends_load, is_blank, opens_load, read_line, read_order};
+pub use last_order::LastOrder;
+pub use lines::{ends_load, is_blank, opens_load, read_line};
 pub use smil_grammar::Read;
 pub use words::{attribute, event_name};

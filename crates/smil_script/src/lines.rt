@@ -1,10 +1,10 @@
 //! Lines by their first word.
 
-ghost use Rattle.std.specs.Prelude.{◌≡◌, ◌||◌, IsTrue, IfOk, IfErr, IfNone, IfSome, Ok, Err, false, is_ok, is_some};
-ghost use Rattle.std.specs.List.{list_all};
+ghost use Rattle.std.specs.Prelude.{◌≡◌, ◌||◌, IsTrue, IfOk, IfErr, IfNone, IfSome, Ok, Err, false, bytes_eq, is_ok, is_some};
+ghost use Rattle.std.specs.List.{list_all, list_any};
 ghost use Rattle.smil_model.specs.shown.Answers.{IsGiven, IsText};
 ghost use Rattle.smil_grammar.specs.Texts.{is_white as is_white_byte};
-ghost use Rattle.smil_grammar.specs.Scripts.{line_of, is_blank as is_blank_line, to as to_name, finish, order_line, command as command_line, first_of, close_line, start_line, load_behind as load_behind_name, load_line, is_preference as is_preference_line, prefer_line, behind_name as behind_first_name, or_refused, opens_load as opens_load_line};
+ghost use Rattle.smil_grammar.specs.Scripts.{line_of, is_blank as is_blank_line, to as to_name, finish, order_line, command as command_line, first_of, close_line, start_line, load_behind as load_behind_name, load_line, is_preference as is_preference_line, preference_words, prefer_line, behind_name as behind_first_name, or_refused, opens_load as opens_load_line};
 ghost use Rattle.smil_grammar.specs.declared.read.Read.{Read as ReadValue};
 ghost use Rattle.smil_grammar.specs.declared.read.Read.TheVariants.{Blank, To};
 ghost use Rattle.smil_grammar.specs.Gives.{GivesReading};
@@ -99,17 +99,24 @@ fn load(alloc: Global, line: &Piece<'_>) -> Result<Read, Refusal>
     load_behind(alloc, word.text, &rest)
 }
 
-// Whether a line prefers a value.
-fn is_preference(first: &[u8], second: &[u8]) -> bool
+/// Whether a line prefers a value.
+pub fn is_preference(first: &[u8], second: &[u8]) -> bool
     ensures { result ≡ is_preference_line first.now second.now }
 {
-    is(first, b"prefer")
-        && (is(second, b"bitrate")
-            || is(second, b"captions")
-            || is(second, b"audiodesc")
-            || is(second, b"language")
-            || is(second, b"screen")
-            || is(second, b"depth"))
+    is(first, b"prefer") && is_preferred(second)
+}
+
+// Whether a value may be preferred for a word: a function of its own, since few lines prefer one.
+#[inline(never)]
+fn is_preferred(word: &[u8]) -> bool
+    ensures { result ≡ list_any (bytes_eq word.now) preference_words }
+{
+    is(word, b"bitrate")
+        || is(word, b"captions")
+        || is(word, b"audiodesc")
+        || is(word, b"language")
+        || is(word, b"screen")
+        || is(word, b"depth")
 }
 
 // The value that is preferred for a word: one word, which may have no reading.
@@ -195,36 +202,6 @@ pub fn read_line(alloc: Global, line: &[u8]) -> Result<Read, Refusal>
         place: 0,
     };
     command(alloc, &whole)
-}
-
-/// The order that a script line without its line feed gives, behind the name of the presentation
-/// that it is for, which stands in the line; None only where the line is blank, its first word is
-/// no presentation's name, or it prefers a value. Else it is refused as `read_line` refuses it, and
-/// takes the memory of the order alone. A line has fewer than 2,147,483,648 bytes.
-pub fn read_order<'a>(alloc: Global, line: &'a [u8]) -> Result<Option<(&'a [u8], Order)>, Refusal>
-    requires { IsText line.now }
-    ensures reading { IfOk result (λ order. IfSome order
-        (λ named. line_of line.now ≡ Ok (To named.0.now named.1))) }
-    ensures none { IfOk result (λ order. IfNone order (is_order line.now ≡ false)) }
-    ensures refused { IfErr result (λ refusal. GivesReading {A = ReadValue} (Err refusal)
-        (line_of line.now)) }
-    ensures copied { IsForCopy (line_copies line.now) result }
-    ensures given { IfOk result (λ order. IfSome order (λ named. IsGiven named.1)) }
-{
-    let whole = Piece {
-        text: line,
-        place: 0,
-    };
-    let (word, rest) = whole.first();
-    if is_blank(line) || !is_presentation_name(word.text) {
-        return Ok(None);
-    }
-    let (verb, rest) = rest.first();
-    if is_preference(word.text, verb.text) {
-        return Ok(None);
-    }
-    let order = order(alloc, verb.text, &rest)?;
-    Ok(Some((word.text, order)))
 }
 
 /// Whether a line opens a load: its first word is `load`, however it goes on. It takes no memory.

@@ -1,8 +1,9 @@
 //! Orders, each behind its verb.
 
-ghost use Rattle.std.specs.Prelude.{◌≡◌, ◌<◌, ◌+◌, ℤ, true, false, is_some, IfOk, IfSome, option_map, length};
+ghost use Rattle.std.specs.Prelude.{◌≡◌, ◌<◌, ◌+◌, ℤ, true, false, is_some, IfOk, IfSome, OnOk, option_map, length};
 ghost use Rattle.smil_grammar.specs.Scripts.{first_of, who_of, with_clock, with_who, event_line, key_line, stack_line, unset_line, set_line, insert_line, finish, given as given_reading, at_end, quoted as quoted_of};
 ghost use Rattle.smil_grammar.specs.Gives.{GivesReading};
+ghost use Rattle.smil_attrs.specs.Filled.{filled};
 ghost use Rattle.smil_model.specs.declared.order.Order.{Order as OrderValue};
 ghost use Rattle.smil_model.specs.declared.order.Order.TheVariants as order_value;
 ghost use Rattle.smil_model.specs.declared.limits.TheConstants.{TEXT_BYTES};
@@ -17,7 +18,7 @@ use smil_clock_value::clock_within;
 use smil_lexis::numbers::short_number;
 use smil_lexis::runs;
 use smil_lexis::texts::{behind, cut, is_key};
-use smil_model::{Order, Refusal, Who};
+use smil_model::{Bytes, Order, Refusal, Who};
 use std::alloc::Global;
 
 // The column of a place, from 1.
@@ -41,9 +42,9 @@ pub fn ended(line: &Piece<'_>, order: Order) -> Result<Order, Refusal>
     }
 }
 
-// The clock value that is the rest of a line. It is looked at after all else: `BadValue` only where
-// the line ends behind it.
-fn clock(line: &Piece<'_>) -> Result<i64, Refusal>
+/// The clock value that is the rest of a line. It is looked at after all else: `BadValue` only where
+/// the line ends behind it.
+pub fn clock(line: &Piece<'_>) -> Result<i64, Refusal>
     ensures reading { (made : ℤ → OrderValue)
         → finish (with_clock made line.now) ≡ with_value made result }
     ensures free { IsForCopy false result }
@@ -91,15 +92,27 @@ pub fn seek(line: &Piece<'_>) -> Result<Order, Refusal>
     Ok(Order::Seek { to })
 }
 
-// The event's name, behind its element.
-fn event_of(alloc: Global, who: Who, line: &Piece<'_>) -> Result<Order, Refusal>
-    requires { IsName who }
-    ensures reading { GivesReading result (finish (event_line who line.now)) }
-    ensures given { IfOk result IsGiven }
+/// `event`: puts the element and the event's name in place of others, whose memory is kept.
+pub fn put_event(
+    alloc: Global,
+    line: &Piece<'_>,
+    who: &mut Who,
+    name: &mut Bytes,
+) -> Result<(), Refusal>
+    ensures reading { GivesReading (filled result (order_value.Event who.new name.new))
+        (finish (with_who event_line line.now)) }
+    ensures copied { IsForCopy (is_some (who_of (first_of line.now).0.text)) result }
+    ensures given { OnOk result (IsGiven (order_value.Event who.new name.new)) }
 {
-    let (word, rest) = line.first();
-    let name = words::event_name(alloc, word.text)?;
-    ended(&rest, Order::Event { who, name })
+    let (element, behind) = line.first();
+    let (word, rest) = behind.first();
+    words::put_who(alloc, element.text, who)?;
+    words::put_event_name(word.text, name)?;
+    if rest.is_ended() {
+        Ok(())
+    } else {
+        Err(Refusal::NotACommand)
+    }
 }
 
 /// `event`: an element and the event's name.
@@ -108,8 +121,10 @@ pub fn event(alloc: Global, line: &Piece<'_>) -> Result<Order, Refusal>
     ensures copied { IsForCopy (is_some (who_of (first_of line.now).0.text)) result }
     ensures given { IfOk result IsGiven }
 {
-    let (who, rest) = named(alloc, line)?;
-    event_of(alloc, who, &rest)
+    let mut who = Who::Serial(0);
+    let mut name = Bytes::new(alloc);
+    put_event(alloc, line, &mut who, &mut name)?;
+    Ok(Order::Event { who, name })
 }
 
 /// `media`: an element and a length.

@@ -1,6 +1,6 @@
 //! Names, elements and attributes, as they stand in a line.
 
-ghost use Rattle.std.specs.Prelude.{◌≡◌, ◌≤◌, ◌<◌, ◌==◌, length, IfOk, IfErr, is_some, true, ◌&&◌, not, bytes_eq};
+ghost use Rattle.std.specs.Prelude.{◌≡◌, ◌≤◌, ◌<◌, ◌==◌, length, IfOk, IfErr, OnOk, option_map, is_some, true, ◌&&◌, not, bytes_eq};
 ghost use Rattle.std.specs.List.{prefix_len, list_any};
 ghost use Rattle.std.specs.Option.{ok_or};
 ghost use Rattle.smil_grammar.specs.Texts.{quote};
@@ -8,6 +8,8 @@ ghost use Rattle.smil_grammar.specs.Values.{id_of};
 ghost use Rattle.smil_grammar.specs.Scripts.{is_presentation_name as is_name_word, who_of, event_of, attribute_word_of};
 ghost use Rattle.smil_grammar.specs.Gives.{GivesReading};
 ghost use Rattle.smil_model.specs.declared.order.Refusal.TheVariants.{NotACommand, Memory};
+ghost use Rattle.smil_model.specs.declared.order.Who.TheVariants as who_value;
+ghost use Rattle.smil_attrs.specs.Filled.{filled};
 ghost use Rattle.smil_model.specs.document.Words.{is_event_name as is_event_word, is_raised_name, is_of_attribute};
 ghost use Rattle.smil_model.specs.shown.Answers.{IsName, IsText};
 ghost use Rattle.smil_script.specs.Copies.{IsForCopy};
@@ -54,32 +56,62 @@ pub fn own(alloc: Global, text: &[u8]) -> Result<Bytes, Refusal>
     Ok(Bytes::of(alloc, text)?)
 }
 
-// An id that is all of a word.
-fn id(alloc: Global, text: &[u8]) -> Result<Bytes, Refusal>
-    ensures reading { GivesReading result (ok_or (id_of text.now) NotACommand) }
+// Puts a text in place of bytes, whose memory is kept.
+fn put(text: &[u8], bytes: &mut Bytes) -> Result<(), Refusal>
+    ensures same { OnOk result (bytes.new ≡ text.now) }
+    ensures memory { IfErr result (λ refusal. refusal ≡ Memory) }
+{
+    bytes.cut_back(0);
+    bytes.append(text)?;
+    Ok(())
+}
+
+// Puts an id that is all of a word in place of what named an element.
+fn put_id(alloc: Global, text: &[u8], who: &mut Who) -> Result<(), Refusal>
+    ensures reading { GivesReading (filled result who.new)
+        (ok_or (option_map who_value.Id (id_of text.now)) NotACommand) }
     ensures copied { IsForCopy (is_some (id_of text.now)) result }
-    ensures same { IfOk result (λ id. id ≡ text.now) }
 {
     if text.is_empty() || runs::id(text, false) != text.len() {
         return Err(Refusal::NotACommand);
     }
-    own(alloc, text)
+    if let Who::Id(id) = who {
+        return put(text, id);
+    }
+    *who = Who::Id(own(alloc, text)?);
+    Ok(())
 }
 
-/// The element that a word names, by its id, or by its serial behind `#`.
+/// Puts the element that a word names, by its id, or by its serial behind `#`, in place of another,
+/// whose memory is kept where both are named by an id.
+pub fn put_who(alloc: Global, text: &[u8], who: &mut Who) -> Result<(), Refusal>
+    requires { IsText text.now }
+    ensures reading { GivesReading (filled result who.new) (ok_or (who_of text.now) NotACommand) }
+    ensures copied { IsForCopy (is_some (who_of text.now)) result }
+    ensures name { OnOk result (IsName who.new) }
+{
+    match behind(text, b'#') {
+        Some(digits) => match count(digits) {
+            Some(serial) => {
+                *who = Who::Serial(serial);
+                Ok(())
+            }
+            None => Err(Refusal::NotACommand),
+        },
+        None => put_id(alloc, text, who),
+    }
+}
+
+/// The element that a word names.
 pub fn who(alloc: Global, text: &[u8]) -> Result<Who, Refusal>
     requires { IsText text.now }
     ensures reading { GivesReading result (ok_or (who_of text.now) NotACommand) }
     ensures copied { IsForCopy (is_some (who_of text.now)) result }
     ensures name { IfOk result IsName }
 {
-    match behind(text, b'#') {
-        Some(digits) => match count(digits) {
-            Some(serial) => Ok(Who::Serial(serial)),
-            None => Err(Refusal::NotACommand),
-        },
-        None => Ok(Who::Id(id(alloc, text)?)),
-    }
+    let mut who = Who::Serial(0);
+    put_who(alloc, text, &mut who)?;
+    Ok(who)
 }
 
 // Whether a word means something else in lists, or is the name of an event that the engine raises
@@ -103,15 +135,26 @@ fn is_event_name(text: &[u8]) -> bool
     !text.is_empty() && runs::name(text) == text.len() && !is_other_name(text)
 }
 
+/// Puts the name of an event that comes from outside in place of another, whose memory is kept.
+pub fn put_event_name(text: &[u8], name: &mut Bytes) -> Result<(), Refusal>
+    ensures reading { GivesName (filled result name.new) (event_of text.now) }
+    ensures name { OnOk result
+        ((is_event_word name.new && not (is_raised_name name.new)) ≡ true) }
+{
+    if !is_event_name(text) {
+        return Err(Refusal::NotACommand);
+    }
+    put(text, name)
+}
+
 /// The name of an event that comes from outside.
 pub fn event_name(alloc: Global, text: &[u8]) -> Result<Bytes, Refusal>
     ensures reading { GivesName result (event_of text.now) }
     ensures name { IfOk result (λ name. (is_event_word name && not (is_raised_name name)) ≡ true) }
 {
-    if !is_event_name(text) {
-        return Err(Refusal::NotACommand);
-    }
-    own(alloc, text)
+    let mut name = Bytes::new(alloc);
+    put_event_name(text, &mut name)?;
+    Ok(name)
 }
 
 // Whether a text has a quote.

@@ -3,6 +3,7 @@ use Rattle.std.proofs.Common.{◌≡◌, ◌⊎◌, ℕ, ℤ, Option, List, [], 
 use Rattle.smil_model.specs.declared.order.Refusal.{Refusal}
 use Rattle.smil_model.specs.declared.order.Refusal.TheVariants.{Memory}
 use Rattle.smil_model.specs.document.Limits.{limits}
+use Rattle.smil_attrs.specs.Filled.{filled}
 use Rattle.smil_grammar.specs.Results.{◌>>=◌}
 use Rattle.smil_grammar.specs.Scripts.{line_of}
 use Rattle.smil_top.specs.declared.fault.Fault.{Fault}
@@ -77,11 +78,6 @@ pub reads-err : (wanted : Wanted) (lines : LoadLines) (this : NumberedLine) (fau
     Reads (Err fault) (reading_of wanted (more_lines lines this))
 reads-err wanted lines this fault was = reading-more wanted lines this ∙ ap (λ r. r >>= λ (x : LoadHead × Loading). with_node x.0 x.1 this) was
 
--- a line behind this name, in a load that begins at a line
-abbrev pub IsNodeAt : ℕ → NumberedLine → Result NamedLines Fault → NamedLines → Type 0
-IsNodeAt first this reading named =
-    Reads reading (with_node (head_read named) named.lines this) ⊎ (reading ≡ Err (record { line = first; refusal = Memory }))
-
 pub IsRead-ok : (load : Load) (wanted : Wanted) (lines : LoadLines) (this : NumberedLine) (named : NamedLines) (reading : Result NamedLines Fault) → load.reading ≡ Ok named → IsRead load wanted lines →
     Reads reading (with_node (head_read named) named.lines this) ⊎ (reading ≡ Err (record { line = load.line; refusal = Memory })) →
     IsRead (record { line = load.line; reading = reading }) wanted (more_lines lines this)
@@ -93,6 +89,13 @@ IsRead-ok load wanted lines this named reading is read step = record { line = re
     go (inr never) s = absurd (let e = sym is ∙ never in cc)
     go (inl was) (inl s) = inl (reads-ok wanted lines this named reading (subst (λ r. Reads r (reading_of wanted lines)) is was) s)
     go (inl was) (inr m) = inr (m ∙ ap (λ k. Err (record { line = k; refusal = Memory })) read.line)
+
+-- the same of a line that was read in place
+pub IsRead-filled : (load : Load) (wanted : Wanted) (lines : LoadLines) (this : NumberedLine) (named more : NamedLines) (pushed : Result (Unit {0}) Fault) → load.reading ≡ Ok named → IsRead load wanted lines →
+    Reads (filled pushed more) (with_node (head_read named) named.lines this) ⊎ (pushed ≡ Err (record { line = load.line; refusal = Memory })) →
+    IsRead (record { line = load.line; reading = filled pushed more }) wanted (more_lines lines this)
+IsRead-filled load wanted lines this named more pushed is read (inl reads) = IsRead-ok load wanted lines this named (filled pushed more) is read (inl reads)
+IsRead-filled load wanted lines this named more pushed is read (inr memory) = IsRead-ok load wanted lines this named (filled pushed more) is read (inr (ap (λ p. filled p more) memory))
 
 pub IsRead-err : (load : Load) (wanted : Wanted) (lines : LoadLines) (this : NumberedLine) (fault : Fault) → load.reading ≡ Err fault → IsRead load wanted lines →
     IsRead (record { line = load.line; reading = Err fault }) wanted (more_lines lines this)

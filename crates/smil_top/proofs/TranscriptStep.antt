@@ -245,6 +245,14 @@ pub load-of : (load : Load) (wanted : Wanted) (at : Option Load) (lines : Option
     (lines' : LoadLines) × (lines ≡ Some lines') × IsRead load wanted lines'
 load-of load wanted at lines stands is = open-some load wanted lines (subst (λ o. IsOpen o wanted lines) is stands)
 
+-- the load that is open
+pub open-of : (wanted : Wanted) (at : Option Load) (lines : Option LoadLines) → is_some at ≡ true → IsOpen at wanted lines →
+    (load : Load) × (at ≡ Some load) × (lines' : LoadLines) × (lines ≡ Some lines') × IsRead load wanted lines'
+open-of wanted None lines some stands = absurd cc
+open-of wanted (Some load) lines some stands =
+    let found = open-some load wanted lines stands in
+    (load, refl, found.0, found.1, found.2)
+
 pub no_load-of : (wanted : Wanted) (at : Option Load) (lines : Option LoadLines) → IsOpen at wanted lines → at ≡ None → lines ≡ None
 no_load-of wanted at lines stands is = open-none wanted lines (subst (λ o. IsOpen o wanted lines) is stands)
 

@@ -4,6 +4,7 @@ ghost use Rattle.std.specs.Prelude.{◌≡◌, ◌⊎◌, ◌≤◌, ℕ, List, 
 ghost use Rattle.smil_model.specs.declared.limits.TheConstants.{NAME_BYTES};
 ghost use Rattle.smil_model.specs.document.Limits.{limits};
 ghost use Rattle.smil_model.specs.document.Valid.{IsValid};
+ghost use Rattle.smil_attrs.specs.Filled.{filled};
 ghost use Rattle.smil_switch.specs.Preferences.{Wanted};
 ghost use Rattle.smil_top.specs.Cut.{LoadLines};
 ghost use Rattle.smil_top.specs.Answers.{given_within};
@@ -43,22 +44,19 @@ impl Load {
     }
 
     /// Reads one more line, or one that is too long.
-    pub fn push(self, line: u32, text: Option<&[u8]>) -> Load
-        ensures { (wanted : Wanted) (lines : LoadLines) (node : List ℕ) → IsRead self wanted lines
+    pub fn push(&mut self, line: u32, text: Option<&[u8]>)
+        ensures { (wanted : Wanted) (lines : LoadLines) (node : List ℕ) → IsRead self.old wanted lines
             → IsLine (option_map (λ t. t.now) text.entry) node
-            → IsRead result wanted (record lines {
+            → IsRead self.new wanted (record lines {
               nodes = lines.nodes
                   ++ record { number = line; text = node } ∷ [];
             }) }
     {
-        let first = self.line;
-        let reading = match self.reading {
-            Ok(so_far) => push_node(so_far, first, line, text),
-            Err(fault) => Err(fault),
+        let Ok(so_far) = &mut self.reading else {
+            return;
         };
-        Load {
-            line: first,
-            reading,
+        if let Err(fault) = push_node(so_far, self.line, line, text) {
+            self.reading = Err(fault);
         }
     }
 
@@ -108,23 +106,22 @@ fn read_head(alloc: Global, head: &[u8], preferences: &Preferences) -> Result<Na
 // One more node line. Its fault stands at its number, or at the load's first line where memory ran
 // out.
 fn push_node(
-    mut so_far: NamedLines,
+    so_far: &mut NamedLines,
     first: u32,
     line: u32,
     text: Option<&[u8]>,
-) -> Result<NamedLines, Fault>
+) -> Result<(), Fault>
     ensures { (node : List ℕ) → IsLine (option_map (λ t. t.now) text.entry) node
-        → Reads result (with_node (head_read so_far) so_far.lines
+        → Reads (filled result so_far.new) (with_node (head_read so_far.old) so_far.old.lines
         (record { number = line; text = node }))
         ⊎ (result ≡ Err (record { line = first; refusal = Refusal.Memory })) }
 {
-    let start = so_far.start;
     let pushed = match text {
-        Some(text) => so_far.lines.push(start, text),
+        Some(text) => so_far.lines.push(so_far.start, text),
         None => Err(Refusal::LongLine),
     };
     match pushed {
-        Ok(()) => Ok(so_far),
+        Ok(()) => Ok(()),
         Err(Refusal::Memory) => Err(Fault {
             line: first,
             refusal: Refusal::Memory,

@@ -74,7 +74,7 @@ impl Load {
     }
 
     // Reads one more line, unless it is silent.
-    fn read_line(self, number: u32, line: &[u8]) -> Load
+    fn read_line(mut self, number: u32, line: &[u8]) -> Load
         ensures { (wanted : Wanted) (lines : LoadLines) → IsRead self wanted lines
             → IsRead result wanted (record lines {
               nodes = lines.nodes ++ nodes_from number (line.now ∷ []);
@@ -82,10 +82,10 @@ impl Load {
     {
         let text = shown(line);
         if is_silent(text) {
-            self
-        } else {
-            self.push(number, text)
+            return self;
         }
+        self.push(number, text);
+        self
     }
 }
 

@@ -1,6 +1,6 @@
 //! A session, line by line.
 
-ghost use Rattle.std.specs.Prelude.{◌≡◌, ◌≤◌, ◌-◌, ℕ, Bool, false, suc, List, ◌∷◌, ◌++◌, [], length, min, option_map, None, Some, IfOk, IfSome};
+ghost use Rattle.std.specs.Prelude.{◌≡◌, ◌≤◌, ◌-◌, ℕ, Bool, false, suc, List, ◌∷◌, ◌++◌, [], length, min, option_map, None, Some, IfOk, IfSome, IsSome};
 ghost use Rattle.smil_outside.specs.Faults.{last_count};
 ghost use Rattle.smil_top.specs.Cut.{CutLines, LoadLines, OrderLines, single, load as load_order, cut_of, unended, with_line};
 ghost use Rattle.smil_top.specs.Session.{Session as Presentations};
@@ -18,7 +18,7 @@ use super::session::Session;
 use smil_interval::Steps;
 use smil_model::Refusal;
 use smil_outside::{Failed, LINE_BYTES, Sink};
-use smil_script::{ends_load, is_blank, opens_load};
+use smil_script::{LastOrder, ends_load, is_blank, opens_load};
 use std::alloc::{AllocError, Global};
 use std::sync::ledger::Ledger;
 
@@ -29,12 +29,13 @@ pub(crate) struct NumberedLine<'a> {
     pub text: Option<&'a [u8]>,
 }
 
-/// A session between two lines: the load that hasn't ended, the last answer, and what is counted so
-/// far.
+/// A session between two lines: the load that hasn't ended, the order that was read last, the last
+/// answer, and what is counted so far.
 #[derive(Drop)]
 pub(crate) struct Run {
     pub session: Session,
     pub load: Option<Load>,
+    pub order: LastOrder,
     pub answer: Answer,
     pub counts: Counts,
 }
@@ -50,6 +51,7 @@ impl Run {
         Ok(Run {
             session: Session::new(alloc, checks)?,
             load: None,
+            order: LastOrder::new(alloc),
             answer: Answer::new(alloc),
             counts,
         })
@@ -78,49 +80,48 @@ impl Run {
             steps.old steps.new }
     {
         self.answer.clear();
-        // Looked at first, so that no load is moved where none is open.
         if self.load.is_none() {
-            return self.line_outside(next, sink, steps);
+            self.line_outside(next, sink, steps)
+        } else {
+            self.line_inside(next, sink, steps)
         }
-        let load = self.load.take().unwrap();
-        self.line_inside(load, next, sink, steps)
     }
 
     // A line inside a load.
     #[inline(never)]
     fn line_inside<K: Sink, L: Ledger>(
         &mut self,
-        load: Load,
         next: &NumberedLine<'_>,
         sink: &mut K,
         steps: &mut Steps<L>,
     ) -> Result<(), Failed>
         requires short { IfSome next.now.text (λ t. length t.now ≤ LINE_BYTES) }
-        requires outside { self.old.load ≡ None }
+        requires inside { IsSome self.old.load }
         requires empty { self.old.answer ≡ no_text }
-        ensures answers { (checks : Bool) (cut : CutLines) (lines : LoadLines)
-            (told : TranscriptState) (line : List ℕ) → cut.«open» ≡ Some lines
-            → IsRead load told.session.wanted lines → Tells checks self.old cut.whole told
+        ensures answers { (checks : Bool) (cut : CutLines) (told : TranscriptState) (line : List ℕ)
+            → IsRunning checks self.old cut told
             → next.now.number ≡ suc cut.count → IsLine (option_map (λ t. t.now) next.now.text) line
             → Answers checks result self.new (with_line cut line) told (K.taken sink.old)
             (K.taken sink.new) (K.sure_room sink.old) (K.sure_room sink.new) }
         ensures faults { CountsFaults result (K.faults sink.old) (K.faults sink.new) }
         ensures counted { steps.old ≤ steps.new }
-        ensures evaluated { (cut : CutLines) (lines : LoadLines) (told : TranscriptState)
-            (line : List ℕ) → cut.«open» ≡ Some lines
-            → IsRead load told.session.wanted lines → Tells false self.old cut.whole told
+        ensures evaluated { (cut : CutLines) (told : TranscriptState) (line : List ℕ)
+            → IsRunning false self.old cut told
             → next.now.number ≡ suc cut.count → IsLine (option_map (λ t. t.now) next.now.text) line
             → EvaluatesOn self.old.counts self.new.counts cut.whole (with_line cut line).whole
             steps.old steps.new }
     {
         match next.text {
-            Some(text) if ends_load(text) => self.end_load(load, next.number, sink, steps),
-            Some(text) if is_blank(text) => {
-                self.load = Some(load);
-                Ok(())
+            Some(text) if ends_load(text) => {
+                let load = self.load.take().unwrap();
+                self.end_load(load, next.number, sink, steps)
             }
+            Some(text) if is_blank(text) => Ok(()),
             _ => {
-                self.load = Some(load.push(next.number, next.text));
+                let Some(load) = &mut self.load else {
+                    return Ok(());
+                };
+                load.push(next.number, next.text);
                 Ok(())
             }
         }
@@ -199,7 +200,7 @@ impl Run {
     {
         let answered = self
             .session
-            .answer_line(number, text, &mut self.answer, steps);
+            .answer_line(number, text, &mut self.order, &mut self.answer, steps);
         self.tell(Fault::at(number, answered), sink)
     }
 

@@ -25,7 +25,7 @@ use smil_live::Presentation;
 use smil_model::{Bytes, Order, Refusal};
 use smil_outline::{write_doc, write_doc_2};
 use smil_outside::LINE_BYTES;
-use smil_script::{read_line, read_order};
+use smil_script::{LastOrder, read_line};
 use smil_switch::Preferences;
 use std::alloc::{AllocError, Global};
 use std::sync::ledger::Ledger;
@@ -68,8 +68,40 @@ impl Session {
     }
 
     /// Answers a single line: its text, or why it is refused. After a refusal the session is as
-    /// before.
+    /// before. An order of it is put in place of the one that was read last.
     pub fn answer_line<L: Ledger>(
+        &mut self,
+        number: u32,
+        line: &[u8],
+        order: &mut LastOrder,
+        answer: &mut Answer,
+        steps: &mut Steps<L>,
+    ) -> Result<(), Refusal>
+        requires short { length line.now ≤ LINE_BYTES }
+        requires empty { answer.old ≡ no_text }
+        ensures answer { (session : Presentations) → Keeps self.old session
+            → Makes result answer.new self.new session
+            (line_by self.old.checks session number line.now) }
+        ensures copied { IsForCopy (line_copies line.now) result }
+        ensures checks { self.new.checks ≡ self.old.checks }
+        ensures counted { steps.old ≤ steps.new }
+        ensures evaluated { (session : Presentations) → Keeps self.old session
+            → self.old.checks ≡ false
+            → IsCounted result (λ (bound : Bound). line_number bound session line.now)
+            (steps.new - steps.old) }
+    {
+        if let Some(name) = order.read(self.alloc, line)? {
+            let given = order.order();
+            let named = NamedOrder { name, order: given };
+            return self.answer_order(number, &named, answer, steps);
+        }
+        self.answer_other(number, line, answer, steps)
+    }
+
+    // Answers a line that is no order to a presentation: a function of its own, so that an order
+    // needs no room for what it reads.
+    #[inline(never)]
+    fn answer_other<L: Ledger>(
         &mut self,
         number: u32,
         line: &[u8],
@@ -89,13 +121,6 @@ impl Session {
             → IsCounted result (λ (bound : Bound). line_number bound session line.now)
             (steps.new - steps.old) }
     {
-        if let Some((name, order)) = read_order(self.alloc, line)? {
-            let named = NamedOrder {
-                name,
-                order: &order,
-            };
-            return self.answer_order(number, &named, answer, steps);
-        }
         let read = read_line(self.alloc, line)?;
         self.answer_read(number, &read, answer, steps)
     }

@@ -1,22 +1,36 @@
-use Rattle.std.proofs.Common.{sym, subst}
+use Rattle.std.proofs.Common.{◌≡◌, ◌⊎◌, Err, sym, subst}
+use Rattle.smil_model.specs.declared.order.Refusal.TheVariants.{Memory}
+use Rattle.smil_attrs.specs.Filled.{filled}
 use Rattle.smil_top.specs.declared.loaded.NamedLines.{NamedLines}
 use Rattle.smil_top.specs.Cut.{NumberedLine}
-use Rattle.smil_top.specs.Running.{IsRead}
-use Rattle.smil_top.proofs.LoadLines.{IsNodeAt, IsRead-ok, IsRead-err, more_lines}
+use Rattle.smil_top.specs.Running.{IsRead, Reads, head_read, with_node}
+use Rattle.smil_top.proofs.LoadLines.{IsRead-err, IsRead-filled, more_lines}
 use Rattle.smil_top.proofs.load.Load.push.Goals as goal
-use Rattle.smil_top.proofs.load.Load.push.Goals.{in-Ok, in-Err}
 
-pub returns : goal.returns
-returns c wanted lines node read shows =
+pub returns-in_default : goal.returns-in_default
+returns-in_default c wanted lines node read shows =
     let this : NumberedLine = record { number = c.args.line; text = node } in
-    elim c.match-self.branch [
-      | in-Ok w ↦
-          (let pushed : IsNodeAt c.args.self.line this w.push_node-reading.result w.in-Ok.so_far =
-          subst (λ (x : NamedLines). IsNodeAt c.args.self.line this w.push_node-reading.result x) w.in-Ok.so_far-is (w.push_node-reading.ensures node shows)
-          in
-          subst (λ r. IsRead (record { line = c.args.self.line; reading = r }) wanted (more_lines lines this)) (sym w.reading-is)
-          (IsRead-ok c.args.self wanted lines this w.in-Ok.so_far w.push_node-reading.result w.in-Ok.is read pushed))
-      | in-Err w ↦
-          subst (λ r. IsRead (record { line = c.args.self.line; reading = r }) wanted (more_lines lines this)) (sym w.reading-is)
-          (IsRead-err c.args.self wanted lines this w.in-Err.fault w.in-Err.is read)
-    ]
+    subst (λ r. IsRead (record { line = c.args.self.now.line; reading = r }) wanted (more_lines lines this)) (sym c.in_default.is)
+    (IsRead-err c.args.self.now wanted lines this c.in_default.field-0 c.in_default.is read)
+
+pub returns-in-Err : goal.returns-in-Err
+returns-in-Err c wanted lines node read shows =
+    let load = c.args.self.now in
+    let more = c.push_node.new.so_far in
+    let this : NumberedLine = record { number = c.args.line; text = node } in
+    let pushed : Reads (filled c.push_node.result more) (with_node (head_read c.in-Ok.so_far) c.in-Ok.so_far.lines this) ⊎ (c.push_node.result ≡ Err (record { line = load.line; refusal = Memory })) =
+    subst (λ (x : NamedLines). Reads (filled c.push_node.result more) (with_node (head_read x) x.lines this) ⊎ (c.push_node.result ≡ Err (record { line = load.line; refusal = Memory }))) c.in-Ok.so_far-is (c.push_node.ensures node shows)
+    in
+    subst (λ r. IsRead (record { line = load.line; reading = filled r more }) wanted (more_lines lines this)) c.in-Err.is
+    (IsRead-filled load wanted lines this c.in-Ok.so_far more c.push_node.result c.in-Ok.is read pushed)
+
+pub returns-in_default-push_node : goal.returns-in_default-push_node
+returns-in_default-push_node c wanted lines node read shows =
+    let load = c.args.self.now in
+    let more = c.push_node.new.so_far in
+    let this : NumberedLine = record { number = c.args.line; text = node } in
+    let pushed : Reads (filled c.push_node.result more) (with_node (head_read c.in-Ok.so_far) c.in-Ok.so_far.lines this) ⊎ (c.push_node.result ≡ Err (record { line = load.line; refusal = Memory })) =
+    subst (λ (x : NamedLines). Reads (filled c.push_node.result more) (with_node (head_read x) x.lines this) ⊎ (c.push_node.result ≡ Err (record { line = load.line; refusal = Memory }))) c.in-Ok.so_far-is (c.push_node.ensures node shows)
+    in
+    subst (λ r. IsRead (record { line = load.line; reading = filled r more }) wanted (more_lines lines this)) c.in_default-push_node.is
+    (IsRead-filled load wanted lines this c.in-Ok.so_far more c.push_node.result c.in-Ok.is read pushed)

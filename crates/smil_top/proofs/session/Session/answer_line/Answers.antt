@@ -1,44 +1,16 @@
-use Rattle.std.proofs.Common.{◌-◌, Err, sym, subst}
-use Rattle.std.proofs.lemmas.Result.{err_from_is_err_and}
+use Rattle.std.proofs.Common.{◌-◌, Ok, ap, sym, ◌∙◌}
 use Rattle.smil_grammar.specs.declared.read.Read.TheVariants.{To}
-use Rattle.smil_script.specs.Copies.{line_copies}
-use Rattle.smil_top.specs.Evaluations.{line_number}
-use Rattle.smil_top.specs.Running.{Makes, line_by}
-use Rattle.smil_top.proofs.EvaluationCounts.{counted-line, counted-refused}
-use Rattle.smil_top.proofs.AnswersMade.{unmade-line}
-use Rattle.smil_top.proofs.CopiedLines.{copied-any, copied-read, said-of}
+use Rattle.smil_top.proofs.EvaluationCounts.{counted-line}
+use Rattle.smil_top.proofs.CopiedLines.{said-of}
 use Rattle.smil_top.proofs.ShortNames.{read-short}
 use Rattle.smil_top.proofs.session.Session.answer_line.Goals as goal
 
 pub answer_order-requires-clause-name : goal.answer_order-requires-clause-name
 answer_order-requires-clause-name g c =
-    read-short c.args.line.now (To c.in-Some.name.now c.in-Some.order) (said-of _ _ _ c.in-Some.is c.in_ok-name.ensures.reading)
+    read-short c.args.line.now (To c.in-Some.name.now c.read.new.self) (said-of _ _ _ c.in-Some.is c.in_ok-name.ensures.reading)
 
 pub returns-in-Some-clause-evaluated : goal.returns-in-Some-clause-evaluated
 returns-in-Some-clause-evaluated g c session keeps runs =
-    counted-line c.answer_order.result session c.args.line.now (To c.in-Some.name.now c.in-Some.order) (c.answer_order.new.steps - c.args.steps.now) c.requires.short (said-of _ _ _ c.in-Some.is c.in_ok-name.ensures.reading)
+    counted-line c.answer_order.result session c.args.line.now (To c.in-Some.name.now c.order-given.result.now) (c.answer_order.new.steps - c.args.steps.now) c.requires.short
+    (said-of _ _ _ c.in-Some.is c.in_ok-name.ensures.reading ∙ ap (λ o. Ok (To c.in-Some.name.now o)) (sym c.order-given.ensures))
     (c.answer_order.ensures.evaluated session keeps runs)
-
-pub answer_read-requires-clause-name : goal.answer_read-requires-clause-name
-answer_read-requires-clause-name g c = read-short c.args.line.now c.in_ok-read.read c.in_ok-read.ensures.reading
-
-pub returns-in_err-read-clause-answer : goal.returns-in_err-read-clause-answer
-returns-in_err-read-clause-answer g c session keeps =
-    let checks = c.args.self.now.checks in
-    let so_far = c.args.self.now in
-    let p = err_from_is_err_and c.from_residual-in_err-read.result c.from_residual-in_err-read.ensures.1 in
-    rw p.1 (subst (λ e. Makes (Err e) c.args.answer.now so_far session (line_by checks session c.args.number c.args.line.now)) (sym p.2)
-    (unmade-line checks so_far session c.args.number c.args.line.now keeps c.args.answer.now c.in_err-read.field-0.0 c.in_err-read.ensures.reading))
-
-pub returns-clause-evaluated : goal.returns-clause-evaluated
-returns-clause-evaluated g c session keeps runs =
-    counted-line c.answer_read.result session c.args.line.now c.in_ok-read.read (c.answer_read.new.steps - c.args.steps.now) c.requires.short c.in_ok-read.ensures.reading
-    (c.answer_read.ensures.evaluated session keeps runs)
-
-pub returns-in_err-read-clause-evaluated : goal.returns-in_err-read-clause-evaluated
-returns-in_err-read-clause-evaluated g c session keeps runs =
-    let p = err_from_is_err_and c.from_residual-in_err-read.result c.from_residual-in_err-read.ensures.1 in
-    rw p.1 (counted-refused p.0 (λ bound. line_number bound session c.args.line.now) c.args.steps.now)
-
-pub returns-clause-copied : goal.returns-clause-copied
-returns-clause-copied g c = copied-any (line_copies c.args.line.now) c.answer_read.result (copied-read c.args.line.now c.in_ok-read.read c.in_ok-read.ensures.reading)
