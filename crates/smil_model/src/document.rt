@@ -528,6 +528,14 @@ impl Doc {
         self.nodes.slice()
     }
 
+    /// All nodes, in document order, each of them moved and none copied. It takes no memory.
+    pub fn into_nodes(self) -> Vec<Node>
+        ensures { result.items ≡ self.nodes }
+    {
+        let Doc { nodes, next: _next } = self;
+        nodes.into_vec()
+    }
+
     /// The serial that an inserted node takes. It takes no memory.
     pub fn next(&self) -> u32
         ensures { result ≡ self.now.next }

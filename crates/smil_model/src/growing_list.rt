@@ -90,6 +90,14 @@ impl<T: Drop> GrowingList<T> {
         self.items.as_slice()
     }
 
+    /// The elements in order, each of them moved and none copied. It takes no memory.
+    pub fn into_vec(self) -> Vec<T>
+        ensures { result.items ≡ self }
+    {
+        let GrowingList { items } = self;
+        items
+    }
+
     /// Leaves the first `len` elements, of which there are as many at least. It takes no memory.
     pub fn cut_back(&mut self, len: usize)
         requires { len ≤ length self.old }

@@ -105,6 +105,7 @@ fn reach(words: &mut Vec<u64>, word: usize) -> Result<(), AllocError>
 
 // Adds words up to one behind the last: a call of its own, so that a put without it stands where it
 // is made.
+#[cold]
 #[inline(never)]
 fn grow(words: &mut Vec<u64>, word: usize) -> Result<(), AllocError>
     requires behind { vec_len words.old ≤ word }

@@ -115,6 +115,7 @@ fn low_place(low: &[u32], serial: u32) -> Option<usize>
 
 // The place of a serial that is found by its hash: a call of its own, so that the look-up by index
 // stands where it is made.
+#[cold]
 #[inline(never)]
 fn high_place(high: &HashMap<u32, usize>, serial: u32) -> Option<usize>
     ensures { result ≡ lookup (nat_eq serial) high.now.entries }

@@ -40,7 +40,14 @@ pub fn capped(sum: i128) -> Time
 pub fn moved(from: i64, by: i64) -> Time
     ensures { result ≡ within_horizon (from +ℤ by) }
 {
-    capped(i128::from(from) + i128::from(by))
+    let sum = from.saturating_add(by);
+    if sum > HORIZON {
+        Time::Indefinite
+    } else if sum < -HORIZON {
+        Time::At(-HORIZON)
+    } else {
+        Time::At(sum)
+    }
 }
 
 /// The time `by` milliseconds later, capped. Indefinite and unresolved stay. It has no condition
