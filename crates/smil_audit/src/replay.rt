@@ -24,7 +24,7 @@ use smil_laws::firsts::first_is_of_element;
 use smil_laws::laws::quiet_may_be_jumped;
 use smil_laws::near::resolved_is_near;
 use smil_laws::stays::time_passes_quietly;
-use smil_model::{Doc, Entry, Key, Log, Step};
+use smil_model::{Doc, Duplicate, Entry, Key, Log, Step};
 use smil_past::Past;
 use smil_rounds::current_rows::{CurrentRow, CurrentRows, IndexedElement, row_of};
 use smil_rounds::groups::{append_all, fill_group};
@@ -88,7 +88,7 @@ impl Replay {
         ensures begun { IfOk result (λ r. replayed r ≡ begun doc.now log (nat_abs last)) }
         ensures sound { IfOk result IsReplay }
     {
-        let tree = Tree::of_doc(alloc, doc)?;
+        let tree = Tree::of_doc(alloc, doc.copy()?)?;
         let past = Past::new(alloc, tree, log)?;
         let known = CurrentRows::of(alloc, &past)?;
         Ok(Replay {

@@ -1,9 +1,9 @@
--- What the callers of a kin know: the kin of a document grows node by node, and a new node takes the next serial.
-use Rattle.std.proofs.Common.{refl, zero, suc, ◌≤◌, length, insert, add-one, ◌≡◌, sym, ◌∙◌, ap, subst, append_assoc, ℕ, ◌+◌, ◌<◌, List, [], ◌∷◌, ◌++◌, Some, false, take, drop, arith}
-use Rattle.std.specs.Prelude.{◌==◌, reverse, slice_get}
+-- What the callers of a kin know: a new node takes the next serial, and no node has it as its parent.
+use Rattle.std.proofs.Common.{refl, zero, suc, ◌≤◌, length, insert, add-one, ◌≡◌, sym, ◌∙◌, ap, subst, ℕ, ◌+◌, ◌<◌, List, [], ◌∷◌, ◌++◌, false, take, drop, arith}
+use Rattle.std.specs.Prelude.{◌==◌, reverse}
 use Rattle.std.specs.List.{AllByRecursion, list_any}
 use Rattle.std.proofs.lemmas.Bool.{or_parts, ne_eqb}
-use Rattle.std.proofs.lemmas.List.{take-append-drop, reverse-append, reverse-reverse}
+use Rattle.std.proofs.lemmas.List.{take-append-drop, reverse-append}
 use Rattle.std.proofs.lemmas.List.Folds.{list_any-append}
 use Rattle.smil_model.specs.declared.document.Node.{Node}
 use Rattle.smil_model.specs.document.Document.{Document}
@@ -11,11 +11,9 @@ use Rattle.smil_model.specs.document.Edits.{children}
 use Rattle.smil_model.specs.document.Valid.{IsDistinct, IsNumberedTree}
 use Rattle.smil_laws.specs.Locality.{NoParent, ParentsBefore}
 use Rattle.smil_laws.specs.Edited.{IsOrdered}
-use Rattle.smil_laws.proofs.AsideDocuments.{each_reverse}
 use Rattle.smil_laws.proofs.NumberedTrees.{all_low}
 use Rattle.smil_laws.proofs.Lists.{each_weaker}
 use Rattle.smil_tree.specs.Places.{cut}
-use Rattle.smil_tree.proofs.NodeFamilies.{drop_at}
 use Rattle.smil_tree.proofs.KinLists.{filter_none}
 
 -- no node has the next serial as its parent
@@ -47,18 +45,6 @@ ordered_take nodes i o = record {
 pub none_of : (s : ℕ) (ms : List Node) → NoParent s ms → AllByRecursion (λ (m : Node). m.parent == s ≡ false) ms
 none_of s [] free = tt
 none_of s (m ∷ ms) free = (free.0, none_of s ms free.1)
-
--- and none of them has a later node as its parent
-pub leaf_at : (nodes : List Node) (i : ℕ) (n : Node) → IsOrdered nodes → slice_get nodes i ≡ Some n → children (take i nodes) n.serial ≡ []
-leaf_at nodes i n o at =
-    let behind : reverse nodes ≡ reverse (drop (i + 1) nodes) ++ n ∷ reverse (take i nodes) =
-    turned nodes i
-    ∙ ap (λ ns. ns ++ reverse (take i nodes)) (ap reverse (drop_at nodes i n at) ∙ reverse-append (n ∷ []) (drop (i + 1) nodes))
-    ∙ append_assoc (reverse (drop (i + 1) nodes)) (n ∷ []) (reverse (take i nodes)) in
-    let free = (parents_right (reverse (drop (i + 1) nodes)) (n ∷ reverse (take i nodes)) (subst ParentsBefore behind o.first)).1 in
-    filter_none (λ (m : Node). m.parent == n.serial) (take i nodes)
-    (subst (λ (ns : List Node). AllByRecursion (λ (m : Node). m.parent == n.serial ≡ false) ns) (reverse-reverse (take i nodes))
-    (each_reverse (λ (m : Node). m.parent == n.serial ≡ false) (reverse (take i nodes)) (none_of n.serial (reverse (take i nodes)) free)))
 
 -- the nodes without the one that was put in
 pub cut-insert : (nodes : List Node) (at : ℕ) (n : Node) → at ≤ length nodes → cut at (at + 1) (insert nodes at n) ≡ nodes

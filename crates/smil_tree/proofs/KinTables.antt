@@ -1,5 +1,5 @@
 -- Tables of lists, with one list changed.
-use Rattle.std.proofs.Common.{length, ◌≡◌, refl, sym, ◌∙◌, ap, ℕ, ◌≤◌, List, [], ◌∷◌, ◌++◌, Option, Some, None, Result, Ok, Err, Bool, true, false, cond, insert, filter}
+use Rattle.std.proofs.Common.{length, ◌≡◌, refl, sym, ◌∙◌, ap, ℕ, ◌≤◌, List, [], ◌∷◌, ◌++◌, Option, Some, None, Result, Ok, Err, Bool, true, false, cond, insert, filter, append-nil}
 use Rattle.std.specs.Prelude.{◌==◌, nat_eq, OnErr, ◌||◌, option_map, unwrap_or, slice_range}
 use Rattle.std.specs.List.{list_any}
 use Rattle.std.specs.Map.{lookup}
@@ -12,7 +12,7 @@ use Rattle.smil_model.specs.ListTables.{list_in, list_of, rows}
 use Rattle.smil_laws.proofs.LineageParents.{same_eqb}
 use Rattle.smil_tree.specs.Places.{cut}
 use Rattle.smil_tree.specs.Kin.{AreListsOf, Families, IsKinOf, Separates}
-use Rattle.smil_tree.proofs.KinLists.{before, passing-between, passing-cut, passing-rest}
+use Rattle.smil_tree.proofs.KinLists.{before, passing-append, passing-between, passing-cut, passing-rest}
 
 abbrev pub is_child : ℕ → Node → Bool
 is_child s n = n.parent == s
@@ -54,6 +54,22 @@ module _ {Z : Type 0} where
   joined_none table fs n bs t lists own s =
       lists s
       ∙ sym (passing-between (t s) fs n bs ∙ ap (λ b. cond b (insert (serials (filter (t s) (fs ++ bs))) (length (filter (t s) fs)) n.serial) (serials (filter (t s) (fs ++ bs)))) (own s))
+
+  -- a node put behind the others
+  pub appended : (old new : List (ℕ × Vec ℕ Z)) (owner : Option ℕ) (past : List Node) (n : Node) (t : ℕ → Node → Bool)
+      → AreListsOf t old past
+      → ((s : ℕ) → t s n ≡ is_option s owner)
+      → ((s : ℕ) → list_of new s ≡ cond (is_option s owner) (list_of old s ++ n.serial ∷ []) (list_of old s))
+      → AreListsOf t new (past ++ n ∷ [])
+  appended old new owner past n t lists own are s =
+      are s ∙ ap (λ xs. cond (is_option s owner) (xs ++ n.serial ∷ []) xs) (lists s)
+      ∙ by (is_option s owner)
+      ∙ ap (λ b. serials (filter (t s) past) ++ serials (cond b (n ∷ []) [])) (sym (own s))
+      ∙ sym (passing-append (t s) past (n ∷ []))
+    where
+      by : (b : Bool) → cond b (serials (filter (t s) past) ++ n.serial ∷ []) (serials (filter (t s) past)) ≡ serials (filter (t s) past) ++ serials (cond b (n ∷ []) [])
+      by true = refl
+      by false = sym (append-nil (serials (filter (t s) past)))
 
   -- a part taken out of the list of the owner
   abbrev pub IsTakenOut : (ℕ → Node → Bool) → Option ℕ → ℕ → ℕ → List Node → List (ℕ × Vec ℕ Z) → List (ℕ × Vec ℕ Z) → Type 0

@@ -13,6 +13,10 @@ use Rattle.smil_tree.proofs.NodeFamilies.{drop_at}
 use Rattle.smil_tree.proofs.KinLists.{parts}
 use Rattle.smil_tree.proofs.IdOwners.{count-one, count-append, owner-between, owner-without}
 
+pub nothing_left : {A : Type 0} (xs : List A) → length xs ≡ 0 → xs ≡ []
+nothing_left [] none = refl
+nothing_left (x ∷ xs) none = absurd (omega (arith, none))
+
 -- ---- one more taken out
 
 pub cut_before : {A : Type 0} (xs : List A) (start i : ℕ) (x : A) → slice_get xs i ≡ Some x → cut start i xs ≡ take start xs ++ x ∷ drop (i + 1) xs

@@ -1,35 +1,29 @@
 -- A tree made of a document, node by node.
-use Rattle.std.proofs.Common.{◌≡◌, refl, sym, ◌∙◌, ap, ℕ, zero, suc, ◌+◌, ◌<◌, ◌≤◌, List, [], ◌∷◌, ◌++◌, Option, Some, None, Bool, true, false, cond, length, get_or, take, insert, arith, add-one, append_assoc}
-use Rattle.std.specs.Prelude.{◌==◌, ◌&&◌, not, count_by, slice_get}
+use Rattle.std.proofs.Common.{◌≡◌, refl, sym, ◌∙◌, ap, ℕ, zero, suc, ◌+◌, ◌<◌, ◌≤◌, List, [], ◌∷◌, ◌++◌, Option, Some, None, Bool, true, false, cond, length, get_or, take, arith, append_assoc}
+use Rattle.std.specs.Prelude.{◌==◌, ◌&&◌, not, count_by, is_some, slice_get}
 use Rattle.std.specs.List.{list_any}
+use Rattle.std.specs.Option.{option_or}
 use Rattle.std.specs.Str.{bytes_eq}
 use Rattle.std.specs.Cmp.Lexicographic.{bytes_decides}
 use Rattle.std.proofs.lemmas.List.Sums.{sum_by-cons, sum_by-append, sum_by-take-le}
-use Rattle.std.proofs.lemmas.Bool.{or_parts}
-use Rattle.std.proofs.lemmas.Option.{slice_get-get_or}
-use Rattle.std.proofs.lemmas.List.{append-nil}
+use Rattle.std.proofs.lemmas.Bool.{eqb-true, or_parts}
+use Rattle.std.proofs.lemmas.Option.{slice_get-get_or, slice_get_within}
+use Rattle.std.proofs.lemmas.List.{append-nil, length-take-le}
 use Rattle.smil_model.specs.declared.document.Node.{Node}
 use Rattle.smil_model.specs.document.Document.{Document, has_id, node_at, with_node}
 use Rattle.smil_model.specs.document.Valid.{IsValid, IsDistinct, is_id_taken, is_other_with, references, references_of}
+use Rattle.smil_model.proofs.FirstPlaces.{position_push}
 use Rattle.smil_laws.proofs.LineageParents.{swap_eqb}
 use Rattle.smil_laws.proofs.Lists.{take-more_at}
 use Rattle.smil_tree.specs.TreeFields.{bears, owner}
+use Rattle.smil_tree.specs.Places.{place_among}
+use Rattle.smil_tree.proofs.Counted.{some_place}
 use Rattle.smil_tree.proofs.IdOwners.{owner-between, count-cons}
+use Rattle.smil_tree.proofs.Listed.{none_there}
 
 -- the item of a walk is the node at its place
 pub item_at : (nodes items : List Node) (i : ℕ) (n : Node) → items ≡ nodes → i < length items → n ≡ get_or items i n → slice_get nodes i ≡ Some n
 item_at nodes items i n same within is = ap (λ ns. slice_get ns i) (sym same) ∙ slice_get-get_or items i n within ∙ ap Some (sym is)
-
-insert-suc_at : (ns : List Node) (i : ℕ) (n : Node) → slice_get ns i ≡ Some n → insert (take i ns) i n ≡ take (suc i) ns
-insert-suc_at [] i n at = cc
-insert-suc_at (m ∷ ns) zero n at = let one : n ≡ m = cc in ap (λ z. z ∷ []) one
-insert-suc_at (m ∷ ns) (suc i) n at = ap (λ zs. m ∷ zs) (insert-suc_at ns i n at)
-
-pub insert-more_at : (ns : List Node) (i : ℕ) (n : Node) → slice_get ns i ≡ Some n → insert (take i ns) i n ≡ take (i + 1) ns
-insert-more_at ns i n at = insert-suc_at ns i n at ∙ sym (ap (λ k. take k ns) (add-one i))
-
-pub taken_more : (ns old new : List Node) (i : ℕ) (copy n : Node) → slice_get ns i ≡ Some n → new ≡ insert old i copy → old ≡ take i ns → copy ≡ n → new ≡ take (i + 1) ns
-taken_more ns old new i copy n at put was same = put ∙ ap (λ ms. insert ms i copy) was ∙ ap (insert (take i ns) i) same ∙ insert-more_at ns i n at
 
 -- a document that is copied node by node
 abbrev document : List Node → ℕ → Document
@@ -58,6 +52,27 @@ fresh_at (m ∷ ns) (suc i) n d at = ap (λ t. cond t (Some m) (node_at (take i 
     apart [] k none here = cc
     apart (x ∷ xs) zero none here = let one : x ≡ n = cc in ap (λ (y : Node). y.serial == m.serial) (sym one) ∙ (or_parts _ _ none).0
     apart (x ∷ xs) (suc k) none here = apart xs k ((or_parts (x.serial == m.serial) (list_any (λ (y : Node). y.serial == m.serial) xs) none).1) here
+
+-- the place of a serial among one more
+pub place-more_at : (ns : List Node) (i : ℕ) (n : Node) (s : ℕ) → IsDistinct ns → slice_get ns i ≡ Some n → place_among (take (i + 1) ns) s ≡ cond (n.serial == s) (Some i) (place_among (take i ns) s)
+place-more_at ns i n s d at =
+    let long : length (take i ns) ≡ i = omega (arith, length-take-le i ns (omega (arith, slice_get_within ns i n at))) in
+    ap (λ ms. place_among ms s) (take-more_at ns i n at)
+    ∙ position_push (λ (m : Node). m.serial == s) (take i ns) n
+    ∙ ap (λ k. option_or (place_among (take i ns) s) (cond (n.serial == s) (Some k) None)) long
+    ∙ by (n.serial == s) refl (place_among (take i ns) s) refl
+  where
+    none : (o : Option ℕ) → is_some o ≡ false → o ≡ None
+    none None is = refl
+    none (Some k) is = let never : true ≡ false = is in cc
+
+    by : (t : Bool) → (n.serial == s) ≡ t → (o : Option ℕ) → place_among (take i ns) s ≡ o → option_or o (cond t (Some i) None) ≡ cond t (Some i) o
+    by false differ None is = refl
+    by false differ (Some k) is = refl
+    by true same o is =
+        let free : list_any (λ (m : Node). m.serial == s) (take i ns) ≡ false =
+        ap (λ v. list_any (λ (m : Node). m.serial == v) (take i ns)) (sym (eqb-true n.serial s same)) ∙ none_there n.serial (take i ns) (fresh_at ns i n d at) in
+        ap (λ p. option_or p (Some i)) (none o (ap is_some (sym is) ∙ some_place (take i ns) s ∙ free))
 
 -- the owner among one more
 pub owner-more_at : (q : List ℕ) (ns : List Node) (i : ℕ) (n : Node) → count_by (bears q) ns ≤ 1 → slice_get ns i ≡ Some n → owner q (take (i + 1) ns) ≡ cond (bears q n) (Some n.serial) (owner q (take i ns))

@@ -1,6 +1,6 @@
 //! The children and the time children of each node.
 
-ghost use Rattle.std.specs.Prelude.{◌≡◌, ℕ, ◌+◌, ◌≤◌, ◌==◌, Bool, [], length, take, filter, insert, slice_get, slice_range, Some, None, if◌then◌else◌, OnOk, OnErr};
+ghost use Rattle.std.specs.Prelude.{◌≡◌, ℕ, ◌+◌, ◌≤◌, ◌==◌, Bool, [], ◌∷◌, ◌++◌, IfOk, length, take, filter, insert, slice_get, slice_range, Some, None, if◌then◌else◌, OnOk, OnErr};
 ghost use Rattle.std.specs.List.{list_any};
 ghost use Rattle.smil_model.specs.declared.document.Node.{Node as AnyNode};
 ghost use Rattle.smil_model.specs.document.Document.{is_element, time_parent as time_parent_in, serials, serial_of};
@@ -13,6 +13,7 @@ ghost use Rattle.smil_tree.specs.Places.{cut};
 ghost use Rattle.smil_tree.specs.Kin.{AreListsOf, HasRoom, IsKinOf, IsSubtree, Separates, is_before};
 
 use crate::nodes::Nodes;
+use crate::tree::family::element_from;
 use smil_model::{Duplicate, Node};
 use std::alloc::{AllocError, Global};
 use std::collections::HashMap;
@@ -70,15 +71,23 @@ impl Duplicate for Kin {
 }
 
 impl Kin {
-    /// The kin of no nodes. It takes no memory.
-    pub fn new(alloc: Global) -> Kin
-        ensures { IsKinOf result [] }
+    /// The kin of these nodes, unless memory runs out.
+    pub fn of(alloc: Global, nodes: &Nodes) -> Result<Kin, AllocError>
+        requires { IsOrdered nodes.now }
+        ensures { IfOk result (λ kin. IsKinOf kin nodes.now) }
     {
-        Kin {
-            children: HashMap::new(alloc),
-            time_children: HashMap::new(alloc),
-            alloc,
+        let mut children = HashMap::new(alloc);
+        let mut time_children = HashMap::new(alloc);
+        for node in nodes.iter() {
+            let time_parent = if_element(node, element_from(nodes, node.parent));
+            append(&mut children, Some(node.parent), node.serial, alloc)?;
+            append(&mut time_children, time_parent, node.serial, alloc)?;
         }
+        Ok(Kin {
+            children,
+            time_children,
+            alloc,
+        })
     }
 
     /// The serials of the nodes with this parent, in document order; the root's parent is 0. It
@@ -161,6 +170,39 @@ fn list_at(lists: &Lists, serial: u32) -> &[u32]
         Some(list) => list,
         None => &[],
     }
+}
+
+// Appends a serial to the list of another, if there is one.
+fn append(
+    lists: &mut Lists,
+    owner: Option<u32>,
+    serial: u32,
+    alloc: Global,
+) -> Result<(), AllocError>
+    ensures { OnOk result ((s : ℕ) → list_of lists.new.entries s
+        ≡ (if is_option s owner then list_of lists.old.entries s ++ serial ∷ [] else list_of
+        lists.old.entries s)) }
+{
+    match owner {
+        Some(owner) => append_to(lists, owner, serial, alloc),
+        None => Ok(()),
+    }
+}
+
+// Appends a serial to the list of another.
+fn append_to(lists: &mut Lists, owner: u32, serial: u32, alloc: Global) -> Result<(), AllocError>
+    ensures { OnOk result ((s : ℕ) → list_of lists.new.entries s
+        ≡ (if owner == s then list_of lists.old.entries s ++ serial ∷ [] else list_of
+        lists.old.entries s)) }
+{
+    if let Some(list) = lists.get_mut(&owner) {
+        list.push(serial)?;
+        return Ok(());
+    }
+    let mut list = Vec::new(alloc);
+    list.push(serial)?;
+    lists.insert(owner, list)?;
+    Ok(())
 }
 
 // Makes room for one more in the list of a serial, if there is one.

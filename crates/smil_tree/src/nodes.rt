@@ -135,14 +135,15 @@ impl<'a> DoubleEndedIterator for Walk<'a> {
 }
 
 impl Nodes {
-    /// No nodes. It takes no memory.
-    pub fn new(alloc: Global) -> Nodes
-        ensures { result ≡ [] }
+    /// These nodes, whose serials are distinct, each of them moved; unless memory runs out.
+    pub fn of(alloc: Global, nodes: Vec<Node>) -> Result<Nodes, AllocError>
+        requires few { length nodes.items < 2 ^ 32 - 1 }
+        requires apart { IsDistinct nodes.items }
+        ensures { IfOk result (λ made. made ≡ nodes.items) }
     {
-        Nodes {
-            list: Vec::new(alloc),
-            places: SerialTable::new(alloc),
-        }
+        let list = shared(alloc, nodes)?;
+        let places = places_of(alloc, &list)?;
+        Ok(Nodes { list, places })
     }
 
     /// How many nodes there are. It takes no memory.
@@ -257,6 +258,30 @@ impl Nodes {
         let place = self.places.get(serial).unwrap();
         self.list[place] = node;
     }
+}
+
+// These nodes, which nothing shares yet.
+fn shared(alloc: Global, nodes: Vec<Node>) -> Result<Vec<SharedNode>, AllocError>
+    ensures { IfOk result (λ list. list.items ≡ nodes.items) }
+{
+    let mut list = Vec::with_capacity(alloc, nodes.len())?;
+    for node in nodes {
+        list.push(SharedNode::new(alloc, node)?)?;
+    }
+    Ok(list)
+}
+
+// The places of the serials of these nodes.
+fn places_of(alloc: Global, nodes: &[SharedNode]) -> Result<SerialTable, AllocError>
+    requires { IsDistinct nodes.now }
+    ensures { IfOk result (λ places. (s : ℕ) → place_of places s
+        ≡ position (λ (n : AnyNode). n.serial == s) nodes.now) }
+{
+    let mut places = SerialTable::new(alloc);
+    for (place, node) in nodes.iter().enumerate() {
+        places.put(node.node().serial, place)?;
+    }
+    Ok(places)
 }
 
 // Gives the serials of the nodes from a place on their places anew. It takes no memory, since each

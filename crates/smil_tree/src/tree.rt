@@ -2,7 +2,7 @@
 
 pub(crate) mod defaults;
 mod edits;
-mod family;
+pub(crate) mod family;
 mod inserting;
 mod placing;
 mod removing;
@@ -16,10 +16,8 @@ ghost use Rattle.smil_model.specs.document.Edits.{place_in};
 ghost use Rattle.smil_model.specs.document.Valid.{IsValid, kind_of, references, references_of};
 ghost use Rattle.smil_model.specs.shown.Orders.{node_of};
 ghost use Rattle.smil_tree.specs.TreeFields.{IsTableOf};
-ghost use Rattle.smil_tree.specs.Kin.{IsKinOf};
 ghost use Rattle.smil_tree.specs.Outline.{IsRowOf};
 
-use self::family::element_from;
 use super::ids::{Ids, note_node};
 use super::kin::Kin;
 use super::nodes::{Nodes, Walk};
@@ -82,10 +80,10 @@ impl Duplicate for Tree {
 }
 
 impl Tree {
-    /// The tree of a document, unless memory runs out.
-    pub fn of_doc(alloc: Global, doc: &Doc) -> Result<Tree, AllocError>
-        requires { IsValid doc.now }
-        ensures { IfOk result (λ tree. tree ≡ doc.now) }
+    /// The tree of a document, whose nodes are moved and not copied; unless memory runs out.
+    pub fn of_doc(alloc: Global, doc: Doc) -> Result<Tree, AllocError>
+        requires { IsValid doc }
+        ensures { IfOk result (λ tree. tree ≡ doc) }
     {
         made(alloc, doc)
     }
@@ -233,44 +231,29 @@ fn doc_of(alloc: Global, nodes: &Nodes, next: u32) -> Result<Doc, AllocError>
 }
 
 // The tree of a document.
-fn made(alloc: Global, doc: &Doc) -> Result<Tree, AllocError>
-    requires { IsValid doc.now }
-    ensures { IfOk result (λ tree. tree ≡ doc.now) }
+fn made(alloc: Global, doc: Doc) -> Result<Tree, AllocError>
+    requires { IsValid doc }
+    ensures { IfOk result (λ tree. tree ≡ doc) }
 {
-    let mut nodes = Nodes::new(alloc);
-    let mut kin = Kin::new(alloc);
-    take_in(&mut nodes, &mut kin, doc)?;
-    let table = ids_of(alloc, doc)?;
+    let next = doc.next();
+    let references = references_of(&doc);
+    let table = ids_of(alloc, &doc)?;
     let ids = Rc::new(alloc, table)?;
+    let nodes = Nodes::of(alloc, doc.into_nodes())?;
+    let families = Kin::of(alloc, &nodes)?;
     let mut outline = Outline::new(alloc);
     outline.reserve(nodes.len())?;
-    outline.refresh(&nodes, &kin);
-    let kin = Rc::new(alloc, kin)?;
+    outline.refresh(&nodes, &families);
+    let kin = Rc::new(alloc, families)?;
     Ok(Tree {
         nodes,
-        next: doc.next(),
+        next,
         kin,
         ids,
-        references: references_of(doc),
+        references,
         outline,
         alloc,
     })
-}
-
-// Takes in the nodes of a document, one after another.
-fn take_in(nodes: &mut Nodes, kin: &mut Kin, doc: &Doc) -> Result<(), AllocError>
-    requires none { nodes.old ≡ [] }
-    requires no_kin { IsKinOf kin.old [] }
-    requires valid { IsValid doc.now }
-    ensures nodes { OnOk result (nodes.new ≡ doc.now.nodes) }
-    ensures kin { OnOk result (IsKinOf kin.new doc.now.nodes) }
-{
-    for (position, node) in doc.nodes().iter().enumerate() {
-        nodes.insert(position, node.copy()?)?;
-        let time_parent = element_from(nodes, node.parent);
-        kin.grow(nodes, time_parent, position)?;
-    }
-    Ok(())
 }
 
 // The table from the ids of a document to their nodes' serials.

@@ -12,7 +12,7 @@ use Rattle.smil_audit.proofs.replay.Replay.new.Goals as goal
 pub returns-clause-begun : goal.returns-clause-begun
 returns-clause-begun c =
     ap (λ (p : MarkedHistory). replayed (record { past = p; moment = pos 0; heard = 0; last = to_z w64 (of_z w64 c.args.last); known = c.in_ok-known.known; keys = c.new-2.result; group = c.new-3.result; room = c.new-4.result })) c.in_ok-past.ensures
-    ∙ ap (λ (d : Document). begun d c.args.log (nat_abs (to_z w64 (of_z w64 c.args.last)))) c.in_ok-tree.ensures
+    ∙ ap (λ (d : Document). begun d c.args.log (nat_abs (to_z w64 (of_z w64 c.args.last)))) (c.in_ok-tree.ensures ∙ c.in_ok-copy.ensures)
     ∙ ap (λ (z : ℤ). begun c.args.doc.now c.args.log (nat_abs z)) (to_z-of_z w64 c.args.last c.ranges.last)
 
 pub returns-clause-sound : goal.returns-clause-sound
