@@ -1,6 +1,7 @@
 pub mod ChildrenAlike
 pub mod FaultColumns
 pub mod IdSet
+pub mod SerialPlaces
 pub mod LineParts
 pub mod FittingAttributes
 pub mod OpenBranch

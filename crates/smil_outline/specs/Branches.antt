@@ -10,20 +10,29 @@ use Rattle.smil_model.specs.document.Valid.{references, same_test}
 use Rattle.smil_model.specs.document.Document.{is_class_kind}
 use Rattle.smil_grammar.specs.Outlines.{Outline, no_lines, has_id, last_of, mixes, with_lines}
 
+-- a serial that a node has
+abbrev pub has_serial : List Node → ℕ → Bool
+has_serial nodes serial = list_any (λ (n : Node). n.serial == serial) nodes
+
+-- a serial that has a place, as each has where no places are kept
+abbrev pub has_place : Option (FinMap nat_cmp ℕ) → ℕ → Bool
+has_place None serial = true
+has_place (Some places) serial = is_some (get places serial)
+
 -- an id among others
 abbrev pub is_among_ids : List (List ℕ) → List ℕ → Bool
 is_among_ids ids id = list_any (λ (other : List ℕ). bytes_eq other id) ids
 
--- the ids and the serials of these nodes, the empty id for a node without one,
--- and how many items refer to something
+-- the ids of these nodes, the empty id for a node without one, their serials have places, and how
+-- many items refer to something
 pub record IsNoted
-    (nodes : List Node) (ids : List (List ℕ)) (places : FinMap nat_cmp ℕ) (count : ℕ) : Type 0 where
-  pub counted : count ≡ references nodes
-  pub few : count ≤ REFERENCES
-  pub named : (id : List ℕ) → is_among_ids ids id ≡ has_id nodes (Some id)
-  pub numbered :
-      (serial : ℕ)
-      → is_some (get places serial) ≡ list_any (λ (n : Node). n.serial == serial) nodes
+    (nodes : List Node) (ids : List (List ℕ)) (places : Option (FinMap nat_cmp ℕ)) (count : ℕ) : Type 0
+  where
+    pub counted : count ≡ references nodes
+    pub few : count ≤ REFERENCES
+    pub named : (id : List ℕ) → is_among_ids ids id ≡ has_id nodes (Some id)
+    pub numbered :
+        (serial : ℕ) → has_serial nodes serial ≡ true → has_place places serial ≡ true
 
 -- whether one of a node and a kind is a class and the other is none
 abbrev pub differs : Option (ℕ × Kind) → Kind → Bool

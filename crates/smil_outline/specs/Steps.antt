@@ -1,5 +1,5 @@
 -- A node line's reading, part by part.
-use Rattle.std.specs.Prelude.{ℕ, ◌+◌, ◌*◌, ◌≤◌, ◌/◌, ◌%◌, List, length, drop, Option, Some, option_map, unwrap_or, Result, Ok, Err, nat_lt, nat_le, ◌==◌}
+use Rattle.std.specs.Prelude.{ℕ, ◌+◌, ◌*◌, ◌≤◌, ◌/◌, ◌%◌, Bool, List, length, take, drop, bytes_eq, codes, Option, Some, option_map, unwrap_or, Result, Ok, Err, nat_lt, nat_le, ◌==◌}
 use Rattle.std.specs.List.{prefix_len}
 use Rattle.smil_model.specs.declared.limits.TheConstants.{NODES, DEPTH, REFERENCES, LINE_BYTES}
 use Rattle.smil_model.specs.declared.document.Kind.{Kind}
@@ -11,13 +11,19 @@ use Rattle.smil_model.specs.document.Valid.{references, references_among}
 use Rattle.smil_grammar.specs.declared.fault.NodeFault.{NodeFault}
 use Rattle.smil_grammar.specs.declared.fault.NodeFault.TheVariants.{Unsupported, UnknownAttribute, BadValue, TooManyItems}
 use Rattle.smil_grammar.specs.Results.{◌>>=◌}
-use Rattle.smil_grammar.specs.Nodes.{Shape, is_space, kind_of_shape}
+use Rattle.smil_grammar.specs.Nodes.{Shape, is_space, is_no_space, kind_of_shape}
 use Rattle.smil_grammar.specs.Outlines.{Outline, refuse_if, in_line, is_misplaced, is_bad_serial, has_id, attrs_in, last_of, with_node}
 use Rattle.smil_attrs.specs.Within.{AllWithin}
 
 -- a line without its leading spaces
 abbrev pub text_of : List ℕ → List ℕ
 text_of line = drop (prefix_len is_space line) line
+
+-- whether the first word of a line is `outline`
+abbrev pub begins_outline : List ℕ → Bool
+begins_outline line =
+    let text : List ℕ = text_of line in
+    bytes_eq (take (prefix_len is_no_space text) text) (codes "outline")
 
 -- the kind of a node, and the refusals that come before its place
 abbrev pub kind_at : Outline → ℕ → ℕ → Shape → Result Kind Refusal

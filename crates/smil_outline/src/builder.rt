@@ -12,7 +12,7 @@ ghost use Rattle.smil_grammar.specs.Outlines.{no_lines, with_line, with_header, 
 ghost use Rattle.smil_grammar.specs.Gives.{GivesReading};
 ghost use Rattle.smil_outline.specs.Gives.{GivesRefusal, GivesDocument};
 ghost use Rattle.smil_outline.specs.Branches.{serial_of, is_known, IsPlaced};
-ghost use Rattle.smil_outline.specs.Steps.{kind_at, attrs_at, node_of, node_with as node_with_attrs, node_kept, text_of, IsInLine};
+ghost use Rattle.smil_outline.specs.Steps.{begins_outline, kind_at, attrs_at, node_of, node_with as node_with_attrs, node_kept, text_of, IsInLine};
 
 use super::branch::Branch;
 use super::nodes::Nodes;
@@ -69,6 +69,16 @@ fn kind(spaces: usize, shape: &Shape<'_>) -> Result<Kind, Refusal>
     }
 }
 
+// Whether the first word of a line is `outline`.
+#[inline(never)]
+fn begins_outline(line: &[u8]) -> bool
+    ensures { result ≡ begins_outline line.now }
+{
+    let (_, text) = line.split_at(runs::spaces(line));
+    let (word, _) = text.split_at(runs::word(text));
+    is(word, b"outline")
+}
+
 impl Builder {
     /// The outline without a line.
     pub fn new(alloc: Global) -> Result<Builder, AllocError>
@@ -76,7 +86,7 @@ impl Builder {
     {
         Ok(Builder {
             alloc,
-            nodes: Nodes::new(alloc),
+            nodes: Nodes::new(alloc)?,
             branch: Branch::new(),
             next: None,
         })
@@ -96,9 +106,7 @@ impl Builder {
     pub fn opens(&self, line: &[u8]) -> bool
         ensures { result ≡ opens_saved self.now line.now }
     {
-        let (_, text) = line.split_at(runs::spaces(line));
-        let (word, _) = text.split_at(runs::word(text));
-        self.next.is_none() && self.nodes.len() == 0 && is(word, b"outline")
+        self.next.is_none() && self.nodes.len() == 0 && begins_outline(line)
     }
 
     // A node line without its leading spaces: its serial, which it gives or which is the next in
@@ -281,6 +289,7 @@ impl Builder {
     }
 
     // Reads a header.
+    #[inline(never)]
     fn open(&mut self, line: &[u8]) -> Result<(), Refusal>
         requires short { length line.now ≤ LINE_BYTES }
         requires first { opens_saved self.old line.now ≡ true }
@@ -291,6 +300,7 @@ impl Builder {
         let Some(next) = read_header(line) else {
             return Err(Refusal::BadOutline);
         };
+        self.nodes.keep_places();
         self.next = Some(next);
         Ok(())
     }

@@ -1,11 +1,14 @@
 //! The ids of an outline's nodes.
 
-ghost use Rattle.std.specs.Prelude.{◌≡◌, ℕ, List, [], ◌||◌, bytes_eq, OnOk, OnErr};
+ghost use Rattle.std.specs.Prelude.{◌≡◌, ℕ, List, [], ◌||◌, bytes_eq, IfOk, OnOk, OnErr};
 ghost use Rattle.smil_outline.specs.Branches.{is_among_ids};
 
 use std::alloc::{AllocError, Global};
 use std::collections::HashSet;
 use std::marker::Model;
+
+/// How many ids there is room for at first.
+const ROOM: usize = 64;
 
 /// Ids, each once, which are found by their hash.
 #[derive(Drop)]
@@ -22,13 +25,13 @@ impl Model for Ids {
 }
 
 impl Ids {
-    /// No ids, which take no memory.
-    pub fn new(alloc: Global) -> Ids
-        ensures { result ≡ [] }
+    /// No ids, with room for 64; unless memory runs out.
+    pub fn new(alloc: Global) -> Result<Ids, AllocError>
+        ensures { IfOk result (λ ids. ids ≡ []) }
     {
-        Ids {
-            ids: HashSet::new(alloc),
-        }
+        Ok(Ids {
+            ids: HashSet::with_capacity(alloc, ROOM)?,
+        })
     }
 
     /// Whether this id is among them.

@@ -41,6 +41,7 @@ impl Model for Loading {
 }
 
 // The id of a root by which items are rewritten: none where its line has no id, or has a begin.
+#[inline(never)]
 fn root_of(alloc: Global, line: &[u8]) -> Result<Option<Bytes>, AllocError>
     ensures { IfOk result (λ root. root ≡ root_of_line line.now) }
 {
@@ -156,6 +157,7 @@ impl Loading {
     }
 
     // A line of an outline with serials is read as it is.
+    #[inline(never)]
     fn push_saved(&mut self, line: &[u8]) -> Result<(), Refusal>
         ensures ok { OnOk result (saved_within limits self.old line.now ≡ Ok self.new) }
         ensures refusal { IfErr result (IsRefusedBy (saved_within limits self.old line.now)) }
@@ -176,6 +178,7 @@ impl Loading {
     }
 
     // The line that was kept, with its items as they are where moment 0 is this instant.
+    #[inline(never)]
     fn rewritten(&self, start: i64) -> Result<Bytes, Refusal>
         ensures { GivesText result
             (walled (Some start) (unwrap_or self.now.root None) self.now.choice.line) }
