@@ -16,7 +16,7 @@ use Rattle.smil_graph.specs.declared.tables.Tables.{Tables}
 use Rattle.smil_graph.specs.Graph.{follows_unlooped, followers_of, has_rank, is_looped_item, readers_of, IsGraphOrder}
 use Rattle.smil_graph.specs.Places.{at_place, is_element_at, reads_place, up, IsTable, AreTimeChildren}
 use Rattle.smil_graph.specs.Reduced.{all_reduced, reduced}
-use Rattle.smil_graph.specs.Tables.{waits, AreFollowerRanks, AreHeads, AreMarks, AreReaderRanks, AreReaders, AreTables, AreWaiting}
+use Rattle.smil_graph.specs.Tables.{waits, AreFollowerRanks, AreHeads, AreMarks, AreReaderRanks, AreTables, AreWaiting}
 use Rattle.smil_graph.proofs.AlikeDocuments.{count_reduced, element_at_reduced, element_serials_reduced, filter_each, followers_reduced, follows_reduced, get_reduced, is_element_at_reduced, mark_reduced, readers_reduced, reads_place_reduced, time_parent_reduced, waits_reduced}
 
 each_from : (P : Node → Type 0) (ns : List Node) → ((p : ℕ) (n : Node) → slice_get ns p ≡ Some n → P n) → AllByRecursion P ns
@@ -128,11 +128,6 @@ module _ (old new : List Node) (alike : all_reduced old ≡ all_reduced new) whe
         ∙ filter_each (λ j. reads_place old j i) (λ j. reads_place new j i) (λ j. across (λ ns. reads_place ns j i) (λ ns. reads_place_reduced ns j i) old new alike) (range_with_len 0 (length new));
   }
 
-  readers_alike : (rows : List (List ℕ)) → AreReaders old rows → AreReaders new rows
-  readers_alike rows are i m at =
-      let n = twin_at i m at in
-      are i n.0 n.1 ∙ ap (readers_of old) (ap (λ (x : Node). x.serial) n.2) ∙ across (λ ns. readers_of ns m.serial) (λ ns. readers_reduced ns m.serial) old new alike
-
   reader_ranks_alike : (order : List ℕ) (rows : List (List ℕ)) → AreReaderRanks old order rows → AreReaderRanks new order rows
   reader_ranks_alike order rows are = record {
     long = are.long;
@@ -146,20 +141,16 @@ module _ (old new : List Node) (alike : all_reduced old ≡ all_reduced new) whe
   }
 
   waiting_alike : (rows : List (List ℕ)) → AreWaiting old rows → AreWaiting new rows
-  waiting_alike rows are = record {
-    long = are.long;
-    each = λ key place l. are.each key place l ∙ across (λ ns. waits ns key (slice_get ns place)) (λ ns. waits_reduced ns key place) old new alike;
-  }
+  waiting_alike rows are key place = are key place ∙ across (λ ns. waits ns key (slice_get ns place)) (λ ns. waits_reduced ns key place) old new alike
 
 pub tables_alike : (old new : Document) → IsDistinct new.nodes → all_reduced old.nodes ≡ all_reduced new.nodes → (t : Tables) → AreTables old t → AreTables new t
 tables_alike old new distinct alike t are = record {
   above = table_alike old.nodes new.nodes alike distinct t.time_parents.items are.above;
   count = are.count ∙ long old.nodes new.nodes alike;
-  under = children_alike old.nodes new.nodes alike t.time_parents.items t.time_children are.under;
+  under = children_alike old.nodes new.nodes alike t.time_parents.items t.time_children.items are.under;
   begun = marks_alike old.nodes new.nodes alike Begin t.begins are.begun;
   ended = marks_alike old.nodes new.nodes alike End t.ends are.ended;
-  headed = heads_alike old.nodes new.nodes alike t.heads are.headed;
-  read = readers_alike old.nodes new.nodes alike t.readers are.read;
+  headed = heads_alike old.nodes new.nodes alike t.heads.items are.headed;
   waiting = waiting_alike old.nodes new.nodes alike t.waiting.items are.waiting;
   ordered = order_alike old.nodes new.nodes alike t.order are.ordered;
   ranked = are.ranked;

@@ -2,7 +2,7 @@
 -- places, and by ranks.
 use Rattle.std.proofs.Common.{◌≡◌, refl, sym, ◌∙◌, ap, ℕ, ◌<◌, ◌+◌, List, [], ◌∷◌, length, take, Bool, true, false, Option, Some, None, arith, inl, inr}
 use Rattle.std.specs.Prelude.{cond, map, not, ◌==◌, ◌||◌, ◌&&◌, ◌⊎◌, filter, slice_get, slice_index, slice_index_or}
-use Rattle.std.specs.List.{list_any, range_with_len}
+use Rattle.std.specs.List.{list_any}
 use Rattle.std.proofs.lemmas.Bool.{or_cases, or_left, or_right, and_parts, eqb-true}
 use Rattle.smil_model.specs.declared.document.Node.{Node}
 use Rattle.smil_model.specs.declared.document.Item.{Item}
@@ -14,12 +14,12 @@ use Rattle.smil_model.specs.document.Valid.{IsDistinct}
 use Rattle.smil_model.specs.reach.Reach.{is_option, reads, reads_node}
 use Rattle.smil_laws.proofs.RoundsRest.{find-serial}
 use Rattle.smil_graph.specs.Graph.{follows, follows_by_item, followers_of, has_rank}
-use Rattle.smil_graph.specs.Links.{row, that_have, AreRows}
+use Rattle.smil_graph.specs.Links.{row, AreRows}
 use Rattle.smil_graph.specs.Places.{at_place, element_follows_off_level, follows_from, follows_off_level, follows_place, leads_to_place, named_by, named_off_level, off_level, place_of, up, AreTimeChildren, IsIndex, IsTable}
 use Rattle.smil_graph.specs.Tables.{is_rank_at, rank_of, row_of, serials_of_places, with_serial, AreElementLevels, AreFollowers, AreRanked}
 use Rattle.smil_graph.proofs.DefinitionsByPlace.{all_any, has_at, sync_is}
 use Rattle.smil_graph.proofs.GraphAnswers.{none_reads}
-use Rattle.smil_graph.proofs.GraphTables.{guarded, low_in, named_low, past, place_is, row_map, serials_filter, turned_is}
+use Rattle.smil_graph.proofs.GraphTables.{guarded, low_in, named_low, past, place_is, row_map, serials_filter}
 use Rattle.smil_graph.proofs.LinksAreDependencies.{element_one, feeds_is}
 use Rattle.smil_graph.proofs.NodesByPlace.{none_each, there, there_below}
 use Rattle.smil_graph.proofs.PlaceLists.{any_each}
@@ -120,17 +120,11 @@ module _ (nodes : List Node) (distinct : IsDistinct nodes) (named : List ℕ →
       by_kind false is = refl
   element_at j i e b None a = guarded nodes distinct named ids (is_element e) (follows_off_level levels named (up previous j) j e i) (λ t. past nodes distinct named ids i a (follows_off_low i j e (there_below nodes j e b) (and_parts (is_element e) (follows_off_level levels named (up previous j) j e i) t).1))
 
-  pub followed_are : (rows : List (List ℕ)) → AreRows (length nodes) (λ j i. element_follows_off_level levels named (up previous j) j (slice_get nodes j) i) rows → AreRows (length nodes) (follows_place nodes) rows
-  followed_are rows are = record {
-    long = are.long;
-    each = λ j i l. are.each j i l ∙ at j i (there nodes j l);
-  }
-    where
-      at : (j i : ℕ) → (e : Node) × (slice_get nodes j ≡ Some e) → element_follows_off_level levels named (up previous j) j (slice_get nodes j) i ≡ follows_place nodes j i
-      at j i e =
-          ap (λ z. element_follows_off_level levels named (up previous j) j z i) e.1
-          ∙ element_at j i e.0 e.1 (slice_get nodes i) refl
-          ∙ sym (ap (λ z. follows_from nodes z (slice_get nodes i)) e.1)
+  pub followed_is : (j i : ℕ) (e : Node) → slice_get nodes j ≡ Some e → element_follows_off_level levels named (up previous j) j (slice_get nodes j) i ≡ follows_place nodes j i
+  followed_is j i e b =
+      ap (λ z. element_follows_off_level levels named (up previous j) j z i) b
+      ∙ element_at j i e b (slice_get nodes i) refl
+      ∙ sym (ap (λ z. follows_from nodes z (slice_get nodes i)) b)
 
 pub followed_row : (levels : List ℕ) (named : List ℕ → Option ℕ) (previous given : Option ℕ) (place : ℕ) (o : Option Node) (n : Node) (i : ℕ) (new empty : List ℕ) → empty ≡ [] → Some n ≡ o → given ≡ previous → has new i ≡ (has empty i || (is_element n && follows_off_level levels named given place n i)) → has new i ≡ element_follows_off_level levels named previous place o i
 followed_row levels named previous given place o n i new empty none at same pushed =
@@ -148,12 +142,6 @@ follows_low nodes j i e = by_node (slice_get nodes j) (slice_get nodes i) refl e
     by_node None z q t = cc
     by_node (Some y) None q t = cc
     by_node (Some y) (Some x) q t = there_below nodes i x q
-
-pub followers_are : (nodes : List Node) (rows heads : List (List ℕ)) → AreRows (length nodes) (follows_place nodes) rows → length heads ≡ length rows → ((i : ℕ) → i < length rows → row heads i ≡ that_have rows i) → AreFollowers nodes heads
-followers_are nodes rows heads are long turned = record {
-  count = long ∙ are.long;
-  each = turned_is (length nodes) (follows_place nodes) rows heads are turned;
-}
 
 -- ---- serials
 
@@ -246,6 +234,6 @@ ranked_by nodes order rows of same ranked are = record {
 }
 
 -- one place more
-pub ranks_more : (nodes : List Node) (order places : List ℕ) (k r : ℕ) (o : Option ℕ) (mid new : Bool) → k < length places → o ≡ rank_of order (slice_get nodes (slice_index_or places k 0)) → mid ≡ is_rank_at nodes order (take k places) r → new ≡ (mid || is_option r o) → new ≡ is_rank_at nodes order (take (k + 1) places) r
-ranks_more nodes order places k r o mid new low is so pushed =
-    any_more_at (λ p. is_option r (rank_of order (slice_get nodes p))) places k mid new (is_option r o) low (ap (is_option r) is) so pushed
+pub ranks_more : (nodes : List Node) (order places : List ℕ) (k r : ℕ) (o : Option ℕ) (old mid new : Bool) → k < length places → o ≡ rank_of order (slice_get nodes (slice_index_or places k 0)) → mid ≡ (old || is_rank_at nodes order (take k places) r) → new ≡ (mid || is_option r o) → new ≡ (old || is_rank_at nodes order (take (k + 1) places) r)
+ranks_more nodes order places k r o old mid new low is so pushed =
+    any_more_at (λ p. is_option r (rank_of order (slice_get nodes p))) places k old mid new (is_option r o) low (ap (is_option r) is) so pushed

@@ -19,9 +19,10 @@ use Rattle.smil_laws.proofs.Lists.{each_at}
 use Rattle.smil_graph.specs.Places.{at_place, has_element, is_element_at, up, previous_of, IsIndex, IsTable, AreTimeChildren}
 use Rattle.smil_graph.specs.Graph.{is_looped_item, looped_of, looped_at, readers_of}
 use Rattle.smil_graph.specs.declared.tables.Tables.{Tables}
-use Rattle.smil_graph.specs.Tables.{element_place, marked_at, row_of, AreMarks, AreReaders, AreTables}
+use Rattle.smil_graph.specs.Tables.{element_place, marked_at, row_of, AreMarks, AreTables}
 use Rattle.smil_graph.proofs.NodesByPlace.{there, find_place, none_each}
 use Rattle.smil_graph.proofs.DefinitionsByPlace.{previous_is}
+use Rattle.smil_graph.proofs.GraphTables.{AreReaders}
 use Rattle.smil_graph.proofs.LinksAreDependencies.{any_there, any_filter}
 
 -- tables that are lent are those that are kept

@@ -13,12 +13,13 @@ use Rattle.smil_model.specs.document.Valid.{IsDistinct}
 use Rattle.smil_model.specs.reach.Reach.{reads, reads_node, is_option}
 use Rattle.smil_model.specs.document.Closure.{has}
 use Rattle.smil_model.proofs.FirstPlaces.{position_cons}
-use Rattle.smil_graph.specs.Links.{row, links, that_have, IsRising, AreRows, AreLevels, StayBelow}
-use Rattle.smil_graph.specs.Places.{at_place, up, is_element_at, named_by, target_place, source_of, leads_to_place, follows, hears, element_follows, element_hears, feeds_from, reads_from, feeds_place, reads_place, IsTable, IsIndex, AreTimeChildren, place_of}
-use Rattle.smil_graph.specs.Tables.{AreElementLevels, AreHeads, AreReaders, with_serial, serials_of_places}
+use Rattle.smil_graph.specs.Graph.{readers_of}
+use Rattle.smil_graph.specs.Links.{row, links, IsRising, AreRows, AreLevels, StayBelow}
+use Rattle.smil_graph.specs.Places.{at_place, up, is_element_at, named_by, target_place, source_of, leads_to_place, follows, hears, element_follows, feeds_from, reads_from, feeds_place, reads_place, IsTable, IsIndex, AreTimeChildren, place_of}
+use Rattle.smil_graph.specs.Tables.{AreElementLevels, AreHeads, with_serial, serials_of_places}
 use Rattle.smil_graph.proofs.PlaceLists.{from_place}
 use Rattle.smil_graph.proofs.NodesByPlace.{there, there_below}
-use Rattle.smil_graph.proofs.PlacesInOrder.{filter_rising, filter_below, filter_same, filter_none, has_in_range}
+use Rattle.smil_graph.proofs.PlacesInOrder.{filter_rising, filter_below, filter_none}
 use Rattle.smil_graph.proofs.DefinitionsByPlace.{follows_is, hears_is}
 use Rattle.smil_graph.proofs.LinksAreDependencies.{feeds_is, reads_is, looped_is}
 
@@ -28,12 +29,6 @@ pub rows_stay : (n : ℕ) (test : ℕ → ℕ → Bool) (rows : List (List ℕ))
 rows_stay n test rows are low i j q =
     let here : i < n = omega (arith, from_place rows i j q, are.long) in
     omega (arith, low i j here (sym (are.each i j here) ∙ q), are.long)
-
-pub turned_is : (n : ℕ) (test : ℕ → ℕ → Bool) (rows heads : List (List ℕ)) → AreRows n test rows → ((i : ℕ) → i < length rows → row heads i ≡ that_have rows i) → (i : ℕ) → i < n → row heads i ≡ filter (λ j. test j i) (range_with_len 0 n)
-turned_is n test rows heads are turned i l =
-    turned i (omega (arith, l, are.long))
-    ∙ ap (λ m. filter (λ k. links rows k i) (range_with_len 0 m)) are.long
-    ∙ filter_same (λ k. links rows k i) (λ k. test k i) n 0 (λ k a h. are.each k i (omega (arith, h)))
 
 pub filtered_stay : (n : ℕ) (test : ℕ → ℕ → Bool) (rows : List (List ℕ)) → length rows ≡ n → ((i : ℕ) → i < n → row rows i ≡ filter (λ j. test j i) (range_with_len 0 n)) → StayBelow (length rows) rows
 filtered_stay n test rows long each i j q =
@@ -159,17 +154,14 @@ module _ (nodes : List Node) (distinct : IsDistinct nodes) (named : List ℕ →
       ∙ both (is_element e) (feeds_node nodes x.serial e) _
   reads_at j i e b None a = guarded (is_element e) (hears named j e i) (λ t. past i a (hears_low i j e (there_below nodes j e b) (and_parts (is_element e) (hears named j e i) t).1))
 
-  pub sources_are : (feeders rows : List (List ℕ)) → AreRows (length nodes) (feeds_place nodes) feeders → AreRows (length nodes) (λ j i. links feeders j i || element_hears named j (slice_get nodes j) i) rows → AreRows (length nodes) (reads_place nodes) rows
-  sources_are feeders rows fed are = record {
-    long = are.long;
-    each = λ j i l. are.each j i l ∙ ap (λ t. t || element_hears named j (slice_get nodes j) i) (fed.each j i l) ∙ at j i (there nodes j l);
-  }
-    where
-      at : (j i : ℕ) → (e : Node) × (slice_get nodes j ≡ Some e) → (feeds_place nodes j i || element_hears named j (slice_get nodes j) i) ≡ reads_place nodes j i
-      at j i e =
-          ap (λ z. feeds_from nodes z (slice_get nodes i) || element_hears named j z i) e.1
-          ∙ reads_at j i e.0 e.1 (slice_get nodes i) refl
-          ∙ sym (ap (λ z. reads_from nodes z (slice_get nodes i)) e.1)
+  -- the row of a place has those that the node there reads
+  pub reads_row : (feeders : List (List ℕ)) → AreRows (length nodes) (feeds_place nodes) feeders → (j i : ℕ) (e : Node) (new mid : List ℕ) → slice_get nodes j ≡ Some e → has mid i ≡ links feeders j i → has new i ≡ (has mid i || (is_element e && hears named j e i)) → has new i ≡ reads_place nodes j i
+  reads_row feeders fed j i e new mid b same pushed =
+      pushed
+      ∙ ap (λ t. t || (is_element e && hears named j e i)) (same ∙ fed.each j i (there_below nodes j e b))
+      ∙ ap (λ z. feeds_from nodes z (slice_get nodes i) || (is_element e && hears named j e i)) b
+      ∙ reads_at j i e b (slice_get nodes i) refl
+      ∙ sym (ap (λ z. reads_from nodes z (slice_get nodes i)) b)
 
 -- ---- links lead to nodes
 
@@ -188,12 +180,6 @@ reads_low nodes j i e = by_node (slice_get nodes j) (slice_get nodes i) refl e
     by_node None z q t = cc
     by_node (Some y) None q t = cc
     by_node (Some y) (Some x) q t = there_below nodes i x q
-
-pub heads_are : (nodes : List Node) (rows heads : List (List ℕ)) → AreRows (length nodes) (reads_place nodes) rows → length heads ≡ length rows → ((i : ℕ) → i < length rows → row heads i ≡ that_have rows i) → AreHeads nodes heads
-heads_are nodes rows heads are long turned = record {
-  count = long ∙ are.long;
-  each = turned_is (length nodes) (reads_place nodes) rows heads are turned;
-}
 
 pub heads_stay : (nodes : List Node) (heads : List (List ℕ)) → AreHeads nodes heads → StayBelow (length heads) heads
 heads_stay nodes heads are = filtered_stay (length nodes) (reads_place nodes) heads are.count are.each
@@ -238,34 +224,24 @@ all_placed ns = record {
   below = λ s p q. (placed ns).below s p (sym (first_in s ns) ∙ q);
 }
 
-pub fed_stay : (feeders fed : List (List ℕ)) → length fed ≡ length feeders → ((i : ℕ) → i < length feeders → row fed i ≡ that_have feeders i) → StayBelow (length fed) fed
-fed_stay feeders fed long turned = filtered_stay (length feeders) (λ j i. links feeders j i) fed long turned
-
-pub levels_are : (nodes : List Node) → IsDistinct nodes → (feeders fed : List (List ℕ)) (levels : List ℕ) → AreRows (length nodes) (feeds_place nodes) feeders → length fed ≡ length feeders → ((i : ℕ) → i < length feeders → row fed i ≡ that_have feeders i) → AreLevels fed levels → AreElementLevels nodes levels
-levels_are nodes distinct feeders fed levels are long turned ranked = record {
-  count = ranked.count ∙ long ∙ are.long;
-  rising = λ i j x e a b f. ranked.rising i j (linked i j x e a b ∙ f);
-  looped = λ i j x e a b f. looped_is nodes distinct fed levels ranked short linked from (λ s. place_in s nodes) (placed nodes) i j x e a b (and_parts (is_element e) (feeds_node nodes x.serial e) (sym (feeds_is nodes distinct x.serial j e b) ∙ f)).0 (linked i j x e a b ∙ f);
+pub levels_are : (nodes : List Node) → IsDistinct nodes → (feeders : List (List ℕ)) (levels : List ℕ) → AreRows (length nodes) (feeds_place nodes) feeders → AreLevels feeders levels → AreElementLevels nodes levels
+levels_are nodes distinct feeders levels are ranked = record {
+  count = ranked.count ∙ are.long;
+  rising = λ i j x e a b f. ranked.falling j i (linked i j x e a b ∙ f);
+  looped = λ i j x e a b f. looped_is nodes distinct feeders levels ranked linked from (λ s. place_in s nodes) (placed nodes) i j x e a b (and_parts (is_element e) (feeds_node nodes x.serial e) (sym (feeds_is nodes distinct x.serial j e b) ∙ f)).0 (linked i j x e a b ∙ f);
 }
   where
-    short : length fed ≡ length nodes
-    short = long ∙ are.long
-
-    each : (i : ℕ) → i < length nodes → row fed i ≡ filter (λ j. feeds_place nodes j i) (range_with_len 0 (length nodes))
-    each = turned_is (length nodes) (feeds_place nodes) feeders fed are turned
-
-    linked : (i j : ℕ) (x e : Node) → slice_get nodes i ≡ Some x → slice_get nodes j ≡ Some e → links fed i j ≡ feeds nodes x.serial e.serial
+    linked : (i j : ℕ) (x e : Node) → slice_get nodes i ≡ Some x → slice_get nodes j ≡ Some e → links feeders j i ≡ feeds nodes x.serial e.serial
     linked i j x e a b =
-        ap (λ r. has r j) (each i (there_below nodes i x a))
-        ∙ has_in_range (λ k. feeds_place nodes k i) (length nodes) 0 j (omega arith) (omega (arith, there_below nodes j e b))
+        are.each j i (there_below nodes j e b)
         ∙ ap (λ z. feeds_from nodes z (slice_get nodes i)) b
         ∙ ap (feeds_from nodes (Some e)) a
         ∙ sym (feeds_is nodes distinct x.serial j e b)
 
-    from : (i j : ℕ) → links fed i j ≡ true → (i < length nodes) × (j < length nodes)
+    from : (i j : ℕ) → links feeders j i ≡ true → (i < length nodes) × (j < length nodes)
     from i j q =
-        let here : i < length nodes = omega (arith, from_place fed i j q, short) in
-        (here, (filter_below (λ k. feeds_place nodes k i) (length nodes) j (sym (ap (λ r. has r j) (each i here)) ∙ q)).0)
+        let here : j < length nodes = omega (arith, from_place feeders j i q, are.long) in
+        (feeds_low nodes j i (sym (are.each j i here) ∙ q), here)
 
 -- ---- serials of places
 
@@ -298,6 +274,10 @@ pub row_map : (f : List ℕ → List ℕ) → f [] ≡ [] → (rows : List (List
 row_map f none [] i = sym none
 row_map f none (r ∷ rows) zero = refl
 row_map f none (r ∷ rows) (suc i) = row_map f none rows i
+
+-- for each node the serials of the elements that read it
+abbrev pub AreReaders : List Node → List (List ℕ) → Type 0
+AreReaders nodes rows = (i : ℕ) (x : Node) → slice_get nodes i ≡ Some x → row rows i ≡ readers_of nodes x.serial
 
 pub readers_are : (nodes : List Node) → IsDistinct nodes → (heads : List (List ℕ)) → AreHeads nodes heads → AreReaders nodes (map (serials_of_places nodes) heads)
 readers_are nodes distinct heads are i x a =

@@ -1,9 +1,9 @@
 -- The rows of keys, and the reach of a key.
-use Rattle.std.proofs.Common.{◌≡◌, refl, sym, ◌∙◌, ap, ℕ, ◌<◌, ◌≤◌, ◌+◌, List, [], ◌∷◌, ◌++◌, length, get_or, take, Bool, true, false, Option, Some, None, arith, inl, inr}
+use Rattle.std.proofs.Common.{◌≡◌, refl, sym, ◌∙◌, ap, ℕ, suc, zero, ◌<◌, ◌≤◌, ◌+◌, List, [], ◌∷◌, ◌++◌, length, get_or, take, Bool, true, false, Option, Some, None, arith, inl, inr}
 use mathlib.Core.Bool.{and-false, and-true, and_comm, or-false}
 use Rattle.std.specs.Prelude.{cond, filter, ◌==◌, ◌||◌, ◌&&◌, ◌⊎◌, slice_get}
 use Rattle.std.specs.List.{list_any}
-use Rattle.std.proofs.Math.ListN.{set, length-set}
+use Rattle.std.proofs.Math.ListN.{set}
 use Rattle.std.proofs.lemmas.Bool.{or_left, or_right, or_cases, and_parts, eq-eqb, ne_eqb, cases_eq}
 use Rattle.std.proofs.lemmas.List.{get_or-set_same, get_or-set_other}
 use Rattle.std.proofs.lemmas.List.Folds.{list_any-append}
@@ -30,12 +30,11 @@ use Rattle.smil_laws.proofs.Lists.{take-more_at}
 
 -- into none
 pub with_none : (place : ℕ) (rows : List (List ℕ)) → AreWithPlace (λ i. false) place rows rows
-with_none place rows = record { count = refl; each = λ i j. sym (or-false (links rows i j)) }
+with_none place rows = record { each = λ i j. sym (or-false (links rows i j)) }
 
 -- into one
 pub with_one : (place at : ℕ) (rows : List (List ℕ)) → at < length rows → AreWithPlace (λ i. is_option i (Some at)) place rows (set rows at (row rows at ++ place ∷ []))
 with_one place at rows low = record {
-  count = length-set rows at (row rows at ++ place ∷ []);
   each = λ i j. by_row i j (cases_eq i at);
 }
   where
@@ -51,10 +50,21 @@ with_one place at rows low = record {
         ∙ sym (or-false (links rows i j))
         ∙ sym (ap (λ t. links rows i j || (t && (j == place))) (ne_eqb i at other))
 
+-- where empty rows were appended before
+pub row_empty : (rows : List (List ℕ)) (i : ℕ) → row (rows ++ [] ∷ []) i ≡ row rows i
+row_empty [] zero = refl
+row_empty [] (suc i) = refl
+row_empty (r ∷ rows) zero = refl
+row_empty (r ∷ rows) (suc i) = row_empty rows i
+
+pub with_one_more : (place at : ℕ) (old mid : List (List ℕ)) → ((i : ℕ) → row mid i ≡ row old i) → at < length mid → AreWithPlace (λ i. is_option i (Some at)) place old (set mid at (row mid at ++ place ∷ []))
+with_one_more place at old mid same low = record {
+  each = λ i j. (with_one place at mid low).each i j ∙ ap (λ r. has r j || ((i == at) && (j == place))) (same i);
+}
+
 -- into some and then into others
 pub with_both : (f g h : ℕ → Bool) (place : ℕ) (old mid new : List (List ℕ)) → ((i : ℕ) → h i ≡ (f i || g i)) → AreWithPlace f place old mid → AreWithPlace g place mid new → AreWithPlace h place old new
 with_both f g h place old mid new both first then = record {
-  count = then.count ∙ first.count;
   each = λ i j.
       then.each i j
       ∙ ap (λ t. t || (g i && (j == place))) (first.each i j)
@@ -92,20 +102,17 @@ with_item items k item place old mid new here so pushed =
 
 -- the rows have the first k nodes
 pub record IsWaitingTo (nodes : List Node) (k : ℕ) (rows : List (List ℕ)) : Type 0 where
-  pub count : length rows ≡ 256
   pub early : (key p : ℕ) → p < k → links rows key p ≡ waits nodes key (slice_get nodes p)
   pub late : (key p : ℕ) → k ≤ p → links rows key p ≡ false
 
-pub none_waits : (nodes : List Node) (rows : List (List ℕ)) → length rows ≡ 256 → ((i : ℕ) → row rows i ≡ []) → IsWaitingTo nodes 0 rows
-none_waits nodes rows long empty = record {
-  count = long;
+pub none_waits : (nodes : List Node) (rows : List (List ℕ)) → ((i : ℕ) → row rows i ≡ []) → IsWaitingTo nodes 0 rows
+none_waits nodes rows empty = record {
   early = λ key p l. absurd (omega (arith, l));
   late = λ key p l. ap (λ r. has r p) (empty key);
 }
 
 pub more_waits : (nodes : List Node) (k : ℕ) (f : ℕ → Bool) (rows new : List (List ℕ)) → IsWaitingTo nodes k rows → AreWithPlace f k rows new → ((key : ℕ) → f key ≡ waits nodes key (slice_get nodes k)) → IsWaitingTo nodes (k + 1) new
 more_waits nodes k f rows new so put here = record {
-  count = put.count ∙ so.count;
   early = λ key p l. by_place key p l (cases_eq p k);
   late = λ key p l. put.each key p ∙ other key p (λ e. omega (arith, l, e)) ∙ so.late key p (omega (arith, l));
 }
@@ -135,7 +142,6 @@ waits_is nodes o e here key =
 -- what is put in for a node
 pub with_none_of : (e : Node) (place : ℕ) (rows : List (List ℕ)) → is_element e ≡ false → AreWithPlace (λ key. is_element e && has_key_item key e) place rows rows
 with_none_of e place rows is = record {
-  count = refl;
   each = λ i j. sym (or-false (links rows i j)) ∙ sym (ap (λ t. links rows i j || ((t && has_key_item i e) && (j == place))) is);
 }
 
@@ -144,7 +150,7 @@ with_all_of e place old mid new is first then =
     with_both (λ key. list_any (is_key_item key) (items_or [] e.attrs.begin)) (λ key. list_any (is_key_item key) (items_or [] e.attrs.«end»)) (λ key. is_element e && has_key_item key e) place old mid new (λ key. ap (λ t. t && has_key_item key e) is) first then
 
 pub all_wait : (nodes : List Node) (k : ℕ) (rows : List (List ℕ)) → k ≡ length nodes → IsWaitingTo nodes k rows → AreWaiting nodes rows
-all_wait nodes k rows end so = record { long = so.count; each = λ key p l. by_node key p (slice_get nodes p) refl }
+all_wait nodes k rows end so key p = by_node key p (slice_get nodes p) refl
   where
     split : (p : ℕ) → (p < k) ⊎ (k ≤ p)
     split p = grind arith
@@ -171,7 +177,7 @@ fewer f (n ∷ ns) s q = step (f n) q (fewer f ns s)
         by_case (inr d) = or_right _ _ (later d)
     step false r later = or_right _ _ (later r)
 
-module _ (nodes : List Node) (distinct : IsDistinct nodes) (rows : List (List ℕ)) (are : AreWaiting nodes rows) (key : ℕ) (low : key < 256) where
+module _ (nodes : List Node) (distinct : IsDistinct nodes) (rows : List (List ℕ)) (are : AreWaiting nodes rows) (key : ℕ) where
   waiting : Node → Bool
   waiting e = list_any (is_key_item key) (all_items nodes e)
 
@@ -179,7 +185,7 @@ module _ (nodes : List Node) (distinct : IsDistinct nodes) (rows : List (List �
   waiters_are = record {
     known = fewer (λ (e : Node). list_any (is_key_item key) (all_items nodes e)) (elements nodes);
     listed = λ j e b is.
-        are.each key j low
+        are key j
         ∙ ap (waits nodes key) b
         ∙ sym (element_one nodes distinct (λ (n : Node). list_any (is_key_item key) (all_items nodes n)) j e b)
         ∙ any_each (λ (c : Node). (c.serial == e.serial) && list_any (is_key_item key) (all_items nodes c)) (λ (c : Node). list_any (is_key_item key) (all_items nodes c) && (c.serial == e.serial)) (elements nodes) (λ c. and_comm (c.serial == e.serial) (list_any (is_key_item key) (all_items nodes c)))
@@ -187,7 +193,7 @@ module _ (nodes : List Node) (distinct : IsDistinct nodes) (rows : List (List �
   }
 
   pub waiters_elements : AreElements nodes (row rows key)
-  waiters_elements j q = by_node (slice_get nodes j) (sym (are.each key j low) ∙ q)
+  waiters_elements j q = by_node (slice_get nodes j) (sym (are key j) ∙ q)
     where
       by_node : (o : Option Node) → waits nodes key o ≡ true → has_element o ≡ true
       by_node None r = cc

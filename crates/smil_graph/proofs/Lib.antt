@@ -10,9 +10,9 @@ pub mod SearchInvariant
 pub mod RowsBuilt
 pub mod DefinitionsByPlace
 pub mod LinksAreDependencies
+pub mod GraphTables
 pub mod GraphAnswers
 pub mod LoopMarks
-pub mod GraphTables
 pub mod ReachByPlace
 pub mod ElementOrder
 pub mod KeyRows

@@ -1,6 +1,6 @@
 -- Links between places are dependencies between elements, and levels tell which references are looped.
 use Rattle.std.proofs.Common.{◌≡◌, refl, sym, ◌∙◌, ap, ℕ, suc, zero, ◌<◌, ◌≤◌, List, [], ◌∷◌, length, get_or, Bool, true, false, Option, Some, None, arith, inl, inr, leb}
-use Rattle.std.specs.Prelude.{cond, ◌==◌, ◌||◌, ◌&&◌, ◌⊎◌, filter, slice_get}
+use Rattle.std.specs.Prelude.{cond, not, ◌==◌, ◌||◌, ◌&&◌, ◌⊎◌, filter, slice_get}
 use Rattle.std.specs.List.{list_any}
 use Rattle.std.proofs.lemmas.Bool.{or_left, or_right, or_cases, and_parts, and_from, eqb-true, eq-eqb, ne_eqb, cases_eq, le-leb, leb-true}
 use Rattle.smil_model.specs.declared.document.Node.{Node}
@@ -110,7 +110,7 @@ module _ (nodes : List Node) (distinct : IsDistinct nodes) where
 
   -- ---- levels
 
-  module _ (fed : List (List ℕ)) (levels : List ℕ) (ranked : AreLevels fed levels) (short : length fed ≡ length nodes) (linked : (i j : ℕ) (x e : Node) → slice_get nodes i ≡ Some x → slice_get nodes j ≡ Some e → links fed i j ≡ feeds nodes x.serial e.serial) (from : (i j : ℕ) → links fed i j ≡ true → (i < length nodes) × (j < length nodes)) where
+  module _ (feeders : List (List ℕ)) (levels : List ℕ) (ranked : AreLevels feeders levels) (linked : (i j : ℕ) (x e : Node) → slice_get nodes i ≡ Some x → slice_get nodes j ≡ Some e → links feeders j i ≡ feeds nodes x.serial e.serial) (from : (i j : ℕ) → links feeders j i ≡ true → (i < length nodes) × (j < length nodes)) where
     level : ℕ → ℕ
     level i = get_or levels i 0
 
@@ -118,16 +118,15 @@ module _ (nodes : List Node) (distinct : IsDistinct nodes) where
     leads_at s None = false
     leads_at s (Some n) = leads_to nodes s n.serial
 
-    -- where a link can be gone back, its end leads to its beginning
-    gone_back : (i j : ℕ) (x e : Node) → slice_get nodes i ≡ Some x → slice_get nodes j ≡ Some e → is_element e ≡ true → LeadsTo fed j i → leads_to nodes e.serial x.serial ≡ true
+    -- where a link can be gone back, its beginning leads to its end
+    gone_back : (i j : ℕ) (x e : Node) → slice_get nodes i ≡ Some x → slice_get nodes j ≡ Some e → is_element e ≡ true → LeadsTo feeders i j → leads_to nodes e.serial x.serial ≡ true
     unfolding leads_at
-    gone_back i j x e a b is way =
-        sym (ap (leads_at e.serial) a)
-        ∙ way (λ k. leads_at e.serial (slice_get nodes k))
-        (ap (leads_at e.serial) b ∙ has_set (feeds nodes) (serials (elements nodes)) (e.serial ∷ []) e.serial (all_has j e b is) (or_left _ _ (eq-eqb e.serial e.serial refl)))
-        (λ k l t r. step k l t r)
+    gone_back i j x e a b is way = sym (ap (leads_at e.serial) a) ∙ by_test (leads_at e.serial (slice_get nodes i)) refl
       where
-        step : (k l : ℕ) → leads_at e.serial (slice_get nodes k) ≡ true → links fed k l ≡ true → leads_at e.serial (slice_get nodes l) ≡ true
+        own : leads_at e.serial (slice_get nodes j) ≡ true
+        own = ap (leads_at e.serial) b ∙ has_set (feeds nodes) (serials (elements nodes)) (e.serial ∷ []) e.serial (all_has j e b is) (or_left _ _ (eq-eqb e.serial e.serial refl))
+
+        step : (k l : ℕ) → leads_at e.serial (slice_get nodes k) ≡ true → links feeders l k ≡ true → leads_at e.serial (slice_get nodes l) ≡ true
         step k l t r =
             let bounds = from k l r in
             let m = there nodes k bounds.0 in
@@ -136,6 +135,17 @@ module _ (nodes : List Node) (distinct : IsDistinct nodes) where
             let is_n = and_parts (is_element n.0) (feeds_node nodes (m.0).serial n.0) (sym (feeds_is (m.0).serial l n.0 n.1) ∙ dependency) in
             ap (leads_at e.serial) n.1
             ∙ is_closed (feeds nodes) (serials (elements nodes)) (e.serial ∷ []) (m.0).serial (n.0).serial (sym (ap (leads_at e.serial) m.1) ∙ t) dependency (all_has l n.0 n.1 is_n.0)
+
+        -- what is not led to comes from none that is
+        back : (k l : ℕ) → not (leads_at e.serial (slice_get nodes k)) ≡ true → links feeders k l ≡ true → (t : Bool) → leads_at e.serial (slice_get nodes l) ≡ t → not t ≡ true
+        back k l r q false s = refl
+        back k l r q true s = sym (ap not (step l k s q)) ∙ r
+
+        by_test : (t : Bool) → leads_at e.serial (slice_get nodes i) ≡ t → leads_at e.serial (slice_get nodes i) ≡ true
+        by_test true q = q
+        by_test false q =
+            let never : not true ≡ true = sym (ap not own) ∙ way (λ k. not (leads_at e.serial (slice_get nodes k))) (ap not q) (λ k l r s. back k l r s (leads_at e.serial (slice_get nodes l)) refl) in
+            absurd (cc)
 
     -- what an element leads to is on its level or above
     high : ℕ → Option ℕ → Bool
@@ -162,16 +172,16 @@ module _ (nodes : List Node) (distinct : IsDistinct nodes) where
             by_index (Some k) q found =
                 let m = there nodes k (ids.below y k q) in
                 let serial : (m.0).serial ≡ y = find-serial y nodes m.0 (ids.node y ∙ ap (at_place nodes) q ∙ m.1) in
-                let link : links fed k found.0 ≡ true = linked k found.0 m.0 found.1 m.1 found.2 ∙ ap (λ u. feeds nodes u (found.1).serial) serial ∙ ap (feeds nodes y) found.4 ∙ r in
+                let link : links feeders found.0 k ≡ true = linked k found.0 m.0 found.1 m.1 found.2 ∙ ap (λ u. feeds nodes u (found.1).serial) serial ∙ ap (feeds nodes y) found.4 ∙ r in
                 let low : level j ≤ level k = leb-true (level j) (level k) (sym (ap (high j) q) ∙ t) in
-                ap (λ u. high j (index u)) (sym found.4) ∙ ap (high j) (place_of index ids found.0 found.1 found.2) ∙ le-leb (level j) (level found.0) (omega (arith, low, ranked.rising k found.0 link))
+                ap (λ u. high j (index u)) (sym found.4) ∙ ap (high j) (place_of index ids found.0 found.1 found.2) ∙ le-leb (level j) (level found.0) (omega (arith, low, ranked.falling found.0 k link))
 
     -- a reference is looped where it stays on its level
-    pub looped_is : (index : ℕ → Option ℕ) → IsIndex nodes (node_at nodes) index → (i j : ℕ) (x e : Node) → slice_get nodes i ≡ Some x → slice_get nodes j ≡ Some e → is_element e ≡ true → links fed i j ≡ true → (get_or levels i 0 == get_or levels j 0) ≡ leads_to nodes e.serial x.serial
+    pub looped_is : (index : ℕ → Option ℕ) → IsIndex nodes (node_at nodes) index → (i j : ℕ) (x e : Node) → slice_get nodes i ≡ Some x → slice_get nodes j ≡ Some e → is_element e ≡ true → links feeders j i ≡ true → (get_or levels i 0 == get_or levels j 0) ≡ leads_to nodes e.serial x.serial
     unfolding level
     looped_is index ids i j x e a b is link = by_case (cases_eq (get_or levels i 0) (get_or levels j 0)) (leads_to nodes e.serial x.serial) refl
       where
         by_case : (get_or levels i 0 ≡ get_or levels j 0) ⊎ (get_or levels i 0 ≡ get_or levels j 0 → ⊥) → (t : Bool) → leads_to nodes e.serial x.serial ≡ t → (get_or levels i 0 == get_or levels j 0) ≡ leads_to nodes e.serial x.serial
-        by_case (inl same) t q = eq-eqb (get_or levels i 0) (get_or levels j 0) same ∙ sym (gone_back i j x e a b is (ranked.looped i j link same))
-        by_case (inr apart) true q = absurd (apart (omega (arith, ranked.rising i j link, not_lower index ids i j x e a b q)))
+        by_case (inl same) t q = eq-eqb (get_or levels i 0) (get_or levels j 0) same ∙ sym (gone_back i j x e a b is (ranked.looped j i link (sym same)))
+        by_case (inr apart) true q = absurd (apart (omega (arith, ranked.falling j i link, not_lower index ids i j x e a b q)))
         by_case (inr apart) false q = ne_eqb (get_or levels i 0) (get_or levels j 0) apart ∙ sym q

@@ -13,7 +13,7 @@ use Rattle.smil_model.specs.document.Document.{is_element}
 use Rattle.smil_model.specs.reach.Reach.{is_option}
 use Rattle.smil_model.specs.document.Closure.{has}
 use Rattle.smil_graph.specs.Links.{row, links, AreRows}
-use Rattle.smil_graph.specs.Places.{leads_to_place, follows, hears, element_follows, element_hears, is_on_level, named_by, marks_of, HaveMarks}
+use Rattle.smil_graph.specs.Places.{leads_to_place, follows, element_follows, is_on_level, named_by, marks_of, HaveMarks}
 use Rattle.smil_laws.proofs.Lists.{take-more_at}
 
 -- ---- one row more
@@ -50,14 +50,16 @@ leads_more of items k item p i old mid new here is so pushed =
     ∙ or_assoc old (leads_to_place of (take k items) i) (is_option i (of item))
     ∙ ap (λ t. old || t) (sym all)
 
-pub any_more_at : (f : ℕ → Bool) (items : List ℕ) (k : ℕ) (mid new last : Bool) → k < length items → last ≡ f (slice_index_or items k 0) → mid ≡ list_any f (take k items) → new ≡ (mid || last) → new ≡ list_any f (take (k + 1) items)
-any_more_at f items k mid new last low is so pushed =
+pub any_more_at : (f : ℕ → Bool) (items : List ℕ) (k : ℕ) (old mid new last : Bool) → k < length items → last ≡ f (slice_index_or items k 0) → mid ≡ (old || list_any f (take k items)) → new ≡ (mid || last) → new ≡ (old || list_any f (take (k + 1) items))
+any_more_at f items k old mid new last low is so pushed =
     let item = slice_index_or items k 0 in
+    let all : list_any f (take (k + 1) items) ≡ (list_any f (take k items) || f item) =
+    ap (list_any f) (take_more items k 0 low) ∙ list_any-append f (take k items) (item ∷ []) ∙ sym (ap (λ t. list_any f (take k items) || t) (right (f item))) in
     pushed
     ∙ ap (λ t. mid || t) is
     ∙ ap (λ t. t || f item) so
-    ∙ ap (λ t. list_any f (take k items) || t) (right (f item))
-    ∙ sym (ap (list_any f) (take_more items k 0 low) ∙ list_any-append f (take k items) (item ∷ []))
+    ∙ or_assoc old (list_any f (take k items)) (f item)
+    ∙ ap (λ t. old || t) (sym all)
 
 -- ---- rows of a node
 
@@ -66,10 +68,6 @@ feeder_row o n children previous named i new empty none at pushed =
     pushed
     ∙ ap (λ r. has r i || (is_element n && follows children previous named n i)) none
     ∙ ap (λ z. element_follows children previous named z i) at
-
-pub source_row : (o : Option Node) (n : Node) (read : List ℕ) (named : List ℕ → Option ℕ) (place i : ℕ) (new mid : List ℕ) → has mid i ≡ has read i → Some n ≡ o → has new i ≡ (has mid i || (is_element n && hears named place n i)) → has new i ≡ (has read i || element_hears named place o i)
-source_row o n read named place i new mid same at pushed =
-    pushed ∙ ap (λ t. t || (is_element n && hears named place n i)) same ∙ ap (λ z. has read i || element_hears named place z i) at
 
 -- ---- marks
 

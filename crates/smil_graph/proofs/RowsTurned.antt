@@ -8,7 +8,7 @@ use Rattle.std.proofs.lemmas.Bool.{or_left, or_right, eq-eqb, ne_eqb, cases_eq}
 use Rattle.std.proofs.lemmas.List.{append-nil, get_or-set_same, get_or-set_other, take_more}
 use Rattle.std.proofs.lemmas.List.Elements.{filter-append}
 use Rattle.smil_model.specs.document.Closure.{has}
-use Rattle.smil_graph.specs.Links.{row, links, is_last, IsPushedInEach}
+use Rattle.smil_graph.specs.Links.{row, is_last, IsPushedInEach}
 use Rattle.smil_graph.proofs.PlaceLists.{has_push}
 use Rattle.smil_graph.proofs.PlacesInOrder.{filter_fresh}
 
@@ -116,11 +116,13 @@ filter_more f n old new so pushed =
         ∙ sym (append-nil (filter f (range_with_len 0 n)))
         ∙ ap (λ ps. filter f (range_with_len 0 n) ++ ps) (sym (ap (λ p. filter f (p ∷ [])) zero_more ∙ ap (λ t. cond t (n ∷ []) []) q))
 
--- the rows of places before this one are turned round
-pub turned_more : (rows heads new : List (List ℕ)) (place : ℕ) → place < length rows → length heads ≡ length rows
-    → ((i : ℕ) → i < length rows → row heads i ≡ filter (λ k. links rows k i) (range_with_len 0 place))
-    → IsPushedInEach heads new (row rows place) place
-    → (i : ℕ) → i < length rows → row new i ≡ filter (λ k. links rows k i) (range_with_len 0 (place + 1))
-turned_more rows heads new place here long so pushed i low =
-    filter_more (λ k. links rows k i) place (row heads i) (row new i) (so i low)
-    (pushed.rows i (omega (arith, low, long)) (ap (λ r. has r place) (so i low) ∙ filter_fresh (λ k. links rows k i) place place 0 (omega arith)))
+-- rows of the places before this one that pass, with this place
+pub turned_more : (test : ℕ → ℕ → Bool) (old new : List (List ℕ)) (listed : List ℕ) (count place : ℕ) → length old ≡ count
+    → ((i : ℕ) → i < count → row old i ≡ filter (λ k. test k i) (range_with_len 0 place))
+    → IsPushedInEach old new listed place
+    → ((i : ℕ) → has listed i ≡ test place i)
+    → (i : ℕ) → i < count → row new i ≡ filter (λ k. test k i) (range_with_len 0 (place + 1))
+turned_more test old new listed count place long so pushed same i low =
+    filter_more (λ k. test k i) place (row old i) (row new i) (so i low)
+    (pushed.rows i (omega (arith, low, long)) (ap (λ r. has r place) (so i low) ∙ filter_fresh (λ k. test k i) place place 0 (omega arith))
+    ∙ ap (λ t. cond t (row old i ++ place ∷ []) (row old i)) (same i))

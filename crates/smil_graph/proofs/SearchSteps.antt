@@ -11,7 +11,7 @@ use Rattle.smil_graph.specs.Links.{row, links, LeadsTo, StayBelow, AreLevels}
 use Rattle.smil_graph.specs.Components.{Grouping, IsGrouping, mark_at, opened, merged, met, followed, left, links_left, untouched, level_of, is_new, is_unfinished, IsStep}
 use Rattle.smil_graph.proofs.PlaceLists.{has_get}
 use Rattle.smil_graph.proofs.StackLists.{top_listed, shorter_rest, no_top}
-use Rattle.smil_graph.proofs.SearchGroups.{two_ways, one_way, opened_kept, opened_known, still_marked, all_lead, merged_kept, merged_met, followed_kept, less_left}
+use Rattle.smil_graph.proofs.SearchGroups.{two_ways, one_way, opened_kept, opened_known, still_marked, all_lead, merged_kept, merged_met, followed_kept, less_left, done_fewer}
 use Rattle.smil_graph.proofs.SearchLeaves.{left_kept, left_known, left_next, left_path, members_below}
 
 module _ (rows : List (List ℕ)) (below : StayBelow (length rows) rows) (g : Grouping) (s : IsGrouping rows g) (p : ℕ) (top : slice_get g.path 0 ≡ Some p) where
@@ -26,6 +26,10 @@ module _ (rows : List (List ℕ)) (below : StayBelow (length rows) rows) (g : Gr
 
   pub place_below : place < length rows
   place_below = omega (arith, members_below rows g s place (has_get g.members p top_stands), s.marks_count)
+
+  -- there is a place whose group is not done
+  pub more_done : g.closed < length rows
+  more_done = let fewer = done_fewer g.marks place p 0 (omega (arith, place_below, s.marks_count)) here in omega (arith, fewer, s.few)
 
   -- ---- a link is followed
   module _ (more : get_or g.next place 0 < length (row rows place)) where
@@ -150,7 +154,7 @@ begun rows g s closed place low new = opened_kept rows g s place low (from_is_ne
 
 module _ (rows : List (List ℕ)) (g : Grouping) (s : IsGrouping rows g) (closed : g.members ≡ []) (known : (a : ℕ) → a < length rows → mark_at g.marks a ≡ New → ⊥) where
   level : ℕ → ℕ
-  level a = get_or (map (level_of g.closed) g.marks) a 0
+  level a = get_or (map level_of g.marks) a 0
 
   -- each place is done
   all_done : (a : ℕ) → a < length rows → (m : ℕ) × (mark_at g.marks a ≡ Done m)
@@ -161,34 +165,33 @@ module _ (rows : List (List ℕ)) (g : Grouping) (s : IsGrouping rows g) (closed
       by_mark (Open p) e = absurd (omega (arith, (s.stands a p e).0, ap length closed))
       by_mark (Done k) e = (k, e)
 
-  level_is : (a m : ℕ) → mark_at g.marks a ≡ Done m → (a < length g.marks) ⊎ (length g.marks ≤ a) → level a ≡ g.closed - m
+  level_is : (a m : ℕ) → mark_at g.marks a ≡ Done m → (a < length g.marks) ⊎ (length g.marks ≤ a) → level a ≡ m
   unfolding level
-  level_is a m e (inl l) = get_or-map (level_of g.closed) g.marks a New 0 l ∙ ap (level_of g.closed) e
+  level_is a m e (inl l) = get_or-map level_of g.marks a New 0 l ∙ ap level_of e
   level_is a m e (inr l) = let never : New ≡ Done m = sym (get_or_past g.marks a New l) ∙ e in absurd (cc)
 
   link_below : (a b : ℕ) → links rows a b ≡ true → (a < length rows) ⊎ (length rows ≤ a) → a < length rows
   link_below a b r (inl l) = l
   link_below a b r (inr l) = let never : false ≡ true = ap (λ xs. has xs b) (sym (get_or_past rows a [] l)) ∙ r in absurd (cc)
 
-  Rises : ℕ → ℕ → Type 0
-  Rises a b = (level a ≤ level b) × (level a ≡ level b → LeadsTo rows b a)
+  Falls : ℕ → ℕ → Type 0
+  Falls a b = (level b ≤ level a) × (level a ≡ level b → LeadsTo rows b a)
 
-  rises : (a b m : ℕ) → links rows a b ≡ true → mark_at g.marks a ≡ Done m → Rises a b
-  unfolding Rises
-  rises a b m r e =
+  falls : (a b m : ℕ) → links rows a b ≡ true → mark_at g.marks a ≡ Done m → Falls a b
+  unfolding Falls
+  falls a b m r e =
       let to = s.done a b m e r in
-      let here : level a ≡ g.closed - m = level_is a m e (cases_lt a (length g.marks)) in
-      let there : level b ≡ g.closed - to.0 = level_is b to.0 to.1 (cases_lt b (length g.marks)) in
-      let low : m < g.closed = s.numbered a m e in
-      (omega (arith, here, there, to.2), λ same. to.3 (omega (arith, here, there, same, low, to.2)))
+      let here : level a ≡ m = level_is a m e (cases_lt a (length g.marks)) in
+      let there : level b ≡ to.0 = level_is b to.0 to.1 (cases_lt b (length g.marks)) in
+      (omega (arith, here, there, to.2), λ same. to.3 (omega (arith, here, there, same)))
 
-  along : (a b : ℕ) → links rows a b ≡ true → Rises a b
-  along a b r = let is = all_done a (link_below a b r (cases_lt a (length rows))) in rises a b is.0 r is.1
+  along : (a b : ℕ) → links rows a b ≡ true → Falls a b
+  along a b r = let is = all_done a (link_below a b r (cases_lt a (length rows))) in falls a b is.0 r is.1
 
-  pub leveled : (levels : List ℕ) → levels ≡ map (level_of g.closed) g.marks → AreLevels rows levels
-  unfolding level Rises
+  pub leveled : (levels : List ℕ) → levels ≡ map level_of g.marks → AreLevels rows levels
+  unfolding level Falls
   leveled levels are = rw are (record {
-    count = length-map g.marks (level_of g.closed) ∙ s.marks_count;
-    rising = λ a b r. (along a b r).0;
+    count = length-map g.marks level_of ∙ s.marks_count;
+    falling = λ a b r. (along a b r).0;
     looped = λ a b r same. (along a b r).1 same;
   })

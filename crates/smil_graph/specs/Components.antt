@@ -100,10 +100,10 @@ left g position =
     if is_option position (slice_get g.starts 0) then closed_from (off_path g) position
     else off_path g
 
--- groups that were done later have lower levels
-abbrev pub level_of : ℕ → Visit → ℕ
-level_of closed (Done number) = closed - number
-level_of closed _ = 0
+-- groups that were done later have higher levels
+abbrev pub level_of : Visit → ℕ
+level_of (Done number) = number
+level_of _ = 0
 
 -- ---- what holds at each step
 

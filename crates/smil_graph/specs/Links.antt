@@ -1,6 +1,5 @@
 -- Places that are linked: for each place a row of those to which it is linked.
-use Rattle.std.specs.Prelude.{◌≡◌, ℕ, ◌<◌, ◌≤◌, List, [], ◌∷◌, ◌++◌, length, filter, Bool, true, false, ◌==◌, if◌then◌else◌, slice_index_or}
-use Rattle.std.specs.List.{range_with_len}
+use Rattle.std.specs.Prelude.{◌≡◌, ℕ, ◌<◌, ◌≤◌, List, [], ◌∷◌, ◌++◌, length, Bool, true, false, ◌==◌, if◌then◌else◌, slice_index_or}
 use Rattle.smil_model.specs.document.Closure.{has}
 
 -- ---- sets of places
@@ -32,10 +31,6 @@ pub record AreRows (count : ℕ) (test : ℕ → ℕ → Bool) (rows : List (Lis
 abbrev pub StayBelow : ℕ → List (List ℕ) → Type 0
 StayBelow bound rows = (i : ℕ) → AreBelow bound (row rows i)
 
--- the places whose rows have this one, in rising order
-abbrev pub that_have : List (List ℕ) → ℕ → List ℕ
-that_have rows j = filter (λ i. links rows i j) (range_with_len 0 (length rows))
-
 -- along links a test does not become false
 abbrev pub IsKeptAlongLinks : List (List ℕ) → (ℕ → Bool) → Type 0
 IsKeptAlongLinks rows test = (i j : ℕ) → test i ≡ true → links rows i j ≡ true → test j ≡ true
@@ -52,11 +47,11 @@ pub record IsReached (rows : List (List ℕ)) (starts places : List ℕ) : Type 
 abbrev pub LeadsTo : List (List ℕ) → ℕ → ℕ → Type 0
 LeadsTo rows i j = (test : ℕ → Bool) → test i ≡ true → IsKeptAlongLinks rows test → test j ≡ true
 
--- no link falls in level, and one that stays on its level can be gone back along links
+-- no link rises in level, and one that stays on its level can be gone back along links
 pub record AreLevels (rows : List (List ℕ)) (levels : List ℕ) : Type 0 where
   pub count : length levels ≡ length rows
-  pub rising :
-      (i j : ℕ) → links rows i j ≡ true → slice_index_or levels i 0 ≤ slice_index_or levels j 0
+  pub falling :
+      (i j : ℕ) → links rows i j ≡ true → slice_index_or levels j 0 ≤ slice_index_or levels i 0
   pub looped :
       (i j : ℕ) → links rows i j ≡ true → slice_index_or levels i 0 ≡ slice_index_or levels j 0
       → LeadsTo rows j i

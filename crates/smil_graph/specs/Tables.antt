@@ -7,16 +7,18 @@ use Rattle.smil_model.specs.declared.document.Item.{Item}
 use Rattle.smil_model.specs.declared.document.Item.TheVariants.{Key}
 use Rattle.smil_model.specs.declared.document.Edge.{Edge}
 use Rattle.smil_model.specs.declared.document.Edge.TheVariants.{Begin, End}
-use Rattle.smil_model.specs.document.Document.{Document, is_element, elements, serials, time_parent, has_kind, is_seq_kind, is_excl_kind}
+use Rattle.smil_model.specs.document.Document.{Document, is_element, elements, previous_in_seq, serials, time_parent, has_kind, is_seq_kind, is_excl_kind}
 use Rattle.smil_model.specs.document.Dependencies.{feeds, leads_to, all_items}
 use Rattle.smil_model.specs.document.Closure.{closure, has}
 use Rattle.smil_model.specs.reach.Reach.{reads, is_near, is_key_item, is_option}
 use Rattle.smil_model.specs.FirstPlaces.{AreFirstPlaces}
+use Rattle.smil_graph.specs.declared.tables.Links.{Links}
+use Rattle.smil_graph.specs.declared.tables.Ranking.{Ranking}
 use Rattle.smil_graph.specs.declared.tables.Tables.{Tables}
+use Rattle.smil_graph.specs.declared.tables.TimePlaces.{TimePlaces}
 use Rattle.smil_graph.specs.Links.{row, links, AreRows}
 use Rattle.smil_graph.specs.Places.{follows_place, place_of, reads_place, is_element_at, IsTable, AreTimeChildren}
-use Rattle.smil_graph.specs.Graph.{is_follower_rank, is_looped_item, is_reader_rank, readers_of, IsGraphOrder}
-use Rattle.smil_graph.specs.declared.waiting.TheConstants.{KEYS}
+use Rattle.smil_graph.specs.Graph.{is_follower_rank, is_looped_item, is_reader_rank, IsGraphOrder}
 use Rattle.smil_model.specs.document.Defaults.{items_of, items_or}
 
 -- what rows have at a place that may be absent
@@ -50,11 +52,6 @@ pub record AreHeads (nodes : List Node) (rows : List (List ℕ)) : Type 0 where
   pub count : length rows ≡ length nodes
   pub each : (i : ℕ) → i < length nodes
       → row rows i ≡ filter (λ j. reads_place nodes j i) (range_with_len 0 (length nodes))
-
--- and their serials
-abbrev pub AreReaders : List Node → List (List ℕ) → Type 0
-AreReaders nodes rows =
-    (i : ℕ) (x : Node) → slice_get nodes i ≡ Some x → row rows i ≡ readers_of nodes x.serial
 
 -- for each node the places of the elements that follow from it by an item that is not looped,
 -- or as the next in a seq, in document order
@@ -127,11 +124,11 @@ waits nodes key (Some e) = is_element e && list_any (is_key_item key) (all_items
 
 -- for each key the places of the elements with an item for it
 abbrev pub AreWaiting : List Node → List (List ℕ) → Type 0
-AreWaiting nodes rows = AreRows KEYS (λ key place. waits nodes key (slice_get nodes place)) rows
+AreWaiting nodes rows =
+    (key place : ℕ) → links rows key place ≡ waits nodes key (slice_get nodes place)
 
 -- the place is put into the rows that pass, and else they are as before
 pub record AreWithPlace (test : ℕ → Bool) (place : ℕ) (old new : List (List ℕ)) : Type 0 where
-  pub count : length new ≡ length old
   pub each : (i j : ℕ) → links new i j ≡ (links old i j || (test i && (j == place)))
 
 -- ---- ranks
@@ -168,17 +165,36 @@ AreRanked nodes order rows count ranked =
 
 -- ---- tables
 
+-- where the elements stand in time: time parents, time children, and the child before each in a seq
+pub record AreTimePlaces (nodes : List Node) (t : TimePlaces) : Type 0 where
+  pub above : IsTable nodes (λ n. time_parent nodes n.serial) t.parents.items
+  pub count : length t.children.items ≡ length nodes
+  pub under : AreTimeChildren nodes t.parents.items t.children.items
+  pub before : IsTable nodes (λ n. previous_in_seq nodes n.serial) t.previous.items
+
+-- what leads from element to element: levels, who reads whom, and who follows from whom
+pub record AreLinks (nodes : List Node) (t : Links) : Type 0 where
+  pub leveled : AreElementLevels nodes t.levels.items
+  pub headed : AreHeads nodes t.heads.items
+  pub followed : AreFollowers nodes t.followers.items
+
+-- an order with ranks, and by rank who reads and who follows
+pub record IsRanking (nodes : List Node) (t : Ranking) : Type 0 where
+  pub ordered : IsGraphOrder nodes t.order
+  pub ranked : AreRanks t.order (get t.ranks)
+  pub read : AreReaderRanks nodes t.order t.readers
+  pub followed : AreFollowerRanks nodes t.order t.followers
+
 -- what is kept: time parents, time children, looped begins and ends,
 -- who reads whom, who waits for which key, an order with ranks,
 -- and by rank who reads and who follows
 pub record AreTables (document : Document) (t : Tables) : Type 0 where
   pub above : IsTable document.nodes (λ n. time_parent document.nodes n.serial) t.time_parents.items
-  pub count : length t.time_children ≡ length document.nodes
-  pub under : AreTimeChildren document.nodes t.time_parents.items t.time_children
+  pub count : length t.time_children.items ≡ length document.nodes
+  pub under : AreTimeChildren document.nodes t.time_parents.items t.time_children.items
   pub begun : AreMarks document.nodes Begin t.begins
   pub ended : AreMarks document.nodes End t.ends
-  pub headed : AreHeads document.nodes t.heads
-  pub read : AreReaders document.nodes t.readers
+  pub headed : AreHeads document.nodes t.heads.items
   pub waiting : AreWaiting document.nodes t.waiting.items
   pub ordered : IsGraphOrder document.nodes t.order
   pub ranked : AreRanks t.order (get t.ranks)

@@ -25,9 +25,10 @@ pub fn are_alike(before: &Tree, after: &Tree) -> bool
     left.next().is_none()
 }
 
-// Whether two nodes are the same in what a graph reads of them.
+/// Whether two nodes are the same in what a graph reads of them, as `are_alike` says. It takes no
+/// memory.
 #[inline(always)]
-fn is_alike(node: &Node, other: &Node) -> bool
+pub fn is_alike(node: &Node, other: &Node) -> bool
     ensures { IsTrue result ↔ (reduced node.now ≡ reduced other.now) }
 {
     node.serial == other.serial

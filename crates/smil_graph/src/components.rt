@@ -6,9 +6,8 @@ ghost use Rattle.smil_graph.specs.Links.{AreBelow, StayBelow};
 ghost use Rattle.smil_graph.specs.Components as model;
 ghost use Rattle.smil_graph.specs.Components.{IsGrouping, StayKnown, mark_at, untouched, opened, met, followed, closed_from, marked_all, left, level_of, without_above, IsStep};
 
-use super::row::row_at;
-use super::short_list::ShortList;
 use super::stack::Stack;
+use smil_flat_lists::FlatLists;
 use std::alloc::{AllocError, Global};
 use std::marker::Model;
 
@@ -96,8 +95,9 @@ impl Components {
 
     /// Follows the links of the open places, and of the new ones that they lead to, until no place
     /// is open. Where memory runs out the search cannot go on.
-    pub fn follow(&mut self, rows: &[ShortList<usize>]) -> Result<(), AllocError>
+    pub fn follow(&mut self, rows: &FlatLists<usize>) -> Result<(), AllocError>
         requires below { StayBelow (length rows.now) rows.now }
+        requires count { length rows.now < 2 ^ 64 }
         requires grouping { IsGrouping rows.now self.old }
         ensures grouping { OnOk result (IsGrouping rows.now self.new) }
         ensures none_open { OnOk result (self.new.members ≡ []) }
@@ -117,14 +117,15 @@ impl Components {
     }
 
     // Follows a link of the last place on the path, or leaves the place where it has no more.
-    fn step(&mut self, rows: &[ShortList<usize>], position: usize) -> Result<(), AllocError>
+    fn step(&mut self, rows: &FlatLists<usize>, position: usize) -> Result<(), AllocError>
         requires below { StayBelow (length rows.now) rows.now }
+        requires count { length rows.now < 2 ^ 64 }
         requires grouping { IsGrouping rows.now self.old }
         requires last { slice_get self.old.path 0 ≡ Some position }
         ensures { OnOk result (IsStep rows.now self.old self.new) }
     {
         let place = self.place_at(position);
-        match row_at(rows, place).get(self.followed_of(place)) {
+        match rows.at(place).get(self.followed_of(place)) {
             Some(target) => self.follow_link(place, *target),
             None => {
                 self.leave(position);
@@ -205,26 +206,26 @@ impl Components {
         self.closed += 1;
     }
 
-    /// For each place a level, which is higher where its group was done earlier; 0 where it is not
+    /// For each place a level, which is higher where its group was done later; 0 where it is not
     /// done. It takes a `Vec` of one number for each place.
     pub fn levels(&self, alloc: Global) -> Result<Vec<usize>, AllocError>
         ensures { IfOk result (λ levels. levels.items
-            ≡ map (level_of self.now.closed) self.now.marks) }
+            ≡ map level_of self.now.marks) }
     {
         let mut levels = Vec::with_capacity(alloc, self.marks.len())?;
         for mark in &self.marks {
-            levels.push(level(self.closed, *mark))?;
+            levels.push(level(*mark))?;
         }
         Ok(levels)
     }
 }
 
-// The level of a place by its mark, where so many groups are done.
-fn level(closed: usize, mark: Visit) -> usize
-    ensures { result ≡ level_of closed mark }
+// The level of a place by its mark.
+fn level(mark: Visit) -> usize
+    ensures { result ≡ level_of mark }
 {
     match mark {
-        Visit::Done(number) => closed.saturating_sub(number),
+        Visit::Done(number) => number,
         _ => 0,
     }
 }

@@ -9,12 +9,14 @@ ghost use Rattle.smil_graph.specs.Links as links;
 ghost use Rattle.smil_model.specs.document.Closure.{has};
 ghost use Rattle.smil_graph.specs.Links.{row, AreRows};
 ghost use Rattle.smil_graph.specs.Places as places;
-ghost use Rattle.smil_graph.specs.Places.{up, leads_to_place, element_follows, feeds_place, reads_place, IsIndex, IsTable, AreTimeChildren};
+ghost use Rattle.smil_graph.specs.Places.{up, leads_to_place, element_follows, feeds_place, IsIndex, IsTable, AreTimeChildren};
+ghost use Rattle.smil_graph.specs.Tables.{AreHeads};
 ghost use Rattle.smil_model.specs.document.Valid.{IsNumberedTree, IsDistinct};
 
 use super::outline::{TimeTree, is_element, place_at};
-use super::row::{push_all, push_one};
+use super::row::{empty_rows, push_all, push_one, row_at};
 use super::short_list::ShortList;
+use super::turned::push_in_each;
 use smil_duration::takes_implicit;
 use smil_flat_lists::FlatLists;
 use smil_model::{Attrs, Bytes, Item, Items, Node};
@@ -26,7 +28,7 @@ use std::collections::HashMap;
 // the child before each node in a seq, and the elements by their ids.
 #[derive(Drop)]
 struct Index<'a, 'b> {
-    children: &'a FlatLists<usize>,
+    children: &'a [ShortList<usize>],
     previous: &'a [Option<usize>],
     ids: &'a HashMap<&'b [u8], usize>,
 }
@@ -80,28 +82,27 @@ fn feeder_rows(
     Ok(rows)
 }
 
-/// For each element the places of those that it reads: those from which its times follow, and those
-/// whose events it hears.
-pub fn sources(
+/// For each node the places of the elements that read it, in document order: those whose times
+/// follow from its times, and those that hear its events.
+pub fn heads(
     alloc: Global,
     tree: &Tree,
     feeders: &FlatLists<usize>,
     ids: &HashMap<&[u8], usize>,
-) -> Result<FlatLists<usize>, AllocError>
+) -> Result<Vec<ShortList<usize>>, AllocError>
     requires distinct { IsDistinct tree.now.nodes }
     requires feeders { AreRows (length tree.now.nodes) (feeds_place tree.now.nodes) feeders.now }
     requires ids { IsIndex tree.now.nodes (model.element_named tree.now.nodes)
         (λ id. get_by (λ k. bytes_eq id k.now) ids.now) }
-    ensures { IfOk result (λ rows. AreRows (length tree.now.nodes) (reads_place tree.now.nodes)
-        rows) }
+    ensures { IfOk result (λ rows. AreHeads tree.now.nodes rows.items) }
 {
-    let mut rows = FlatLists::with_capacity(alloc, tree.len())?;
+    let mut rows = empty_rows(alloc, tree.len())?;
     for place in 0..tree.len() {
         let node = tree.at(place).unwrap();
         let mut row = ShortList::new(alloc);
         push_all(&mut row, feeders.at(place))?;
         push_heard_by(&mut row, node, ids, place)?;
-        rows.push(row.slice())?;
+        push_in_each(&mut rows, row.slice(), place)?;
     }
     Ok(rows)
 }
@@ -123,7 +124,7 @@ fn push_feeders(
     if !is_element(node) {
         return Ok(());
     }
-    push_children(row, &node.attrs, index.children.at(place))?;
+    push_children(row, &node.attrs, row_at(index.children, place))?;
     push_one(row, place_at(index.previous, place))?;
     push_named(row, &node.attrs.begin, index.ids)?;
     push_named(row, &node.attrs.end, index.ids)

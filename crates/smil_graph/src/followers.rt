@@ -1,22 +1,20 @@
 //! Which elements follow from which by an item or as the next in a seq.
 
-ghost use Rattle.std.specs.Prelude.{◌≡◌, ℕ, [], ◌&&◌, ◌||◌, length, OnOk, IfOk, bytes_eq};
+ghost use Rattle.std.specs.Prelude.{◌≡◌, ℕ, [], ◌&&◌, ◌||◌, OnOk, IfOk, bytes_eq};
 ghost use Rattle.std.specs.HashMap.{get_by};
 ghost use Rattle.smil_model.specs.document.Closure.{has};
 ghost use Rattle.smil_model.specs.document.Defaults as defaults;
 ghost use Rattle.smil_model.specs.document.Document as model;
 ghost use Rattle.smil_model.specs.document.Valid.{IsDistinct};
-ghost use Rattle.smil_graph.specs.Links.{AreRows};
-ghost use Rattle.smil_graph.specs.Places.{follows_off_level, follows_place, leads_to_place, named_off_level, IsIndex, IsTable};
+ghost use Rattle.smil_graph.specs.Places.{follows_off_level, leads_to_place, named_off_level, IsIndex, IsTable};
 ghost use Rattle.smil_graph.specs.Tables.{AreElementLevels, AreFollowers};
 
 use super::feeders::named_by;
 use super::looped::{Loops, is_on_level};
 use super::outline::{is_element, place_at};
-use super::row::push_one;
+use super::row::{empty_rows, push_one};
 use super::short_list::ShortList;
-use super::turned::turned;
-use smil_flat_lists::FlatLists;
+use super::turned::push_in_each;
 use smil_model::{Item, Items, Node};
 use smil_tree::Tree;
 use std::alloc::{AllocError, Global};
@@ -37,33 +35,12 @@ pub fn followers(
     requires levels { AreElementLevels tree.now.nodes loops.now.levels.now }
     ensures { IfOk result (λ rows. AreFollowers tree.now.nodes rows.items) }
 {
-    let followed = followed(alloc, tree, previous, loops)?;
-    let rows = turned(alloc, &followed)?;
-    Ok(rows)
-}
-
-// For each node the places of those from which it follows so.
-fn followed(
-    alloc: Global,
-    tree: &Tree,
-    previous: &[Option<usize>],
-    loops: &Loops<'_, '_>,
-) -> Result<FlatLists<usize>, AllocError>
-    requires distinct { IsDistinct tree.now.nodes }
-    requires previous { IsTable tree.now.nodes
-        (λ n. model.previous_in_seq tree.now.nodes n.serial) previous.now }
-    requires ids { IsIndex tree.now.nodes (model.element_named tree.now.nodes)
-        (λ id. get_by (λ k. bytes_eq id k.now) loops.now.ids.now) }
-    requires levels { AreElementLevels tree.now.nodes loops.now.levels.now }
-    ensures { IfOk result (λ rows. AreRows (length tree.now.nodes) (follows_place tree.now.nodes)
-        rows) }
-{
-    let mut rows = FlatLists::with_capacity(alloc, tree.len())?;
+    let mut rows = empty_rows(alloc, tree.len())?;
     for place in 0..tree.len() {
         let node = tree.at(place).unwrap();
         let mut row = ShortList::new(alloc);
         push_followed(&mut row, place_at(previous, place), node, loops, place)?;
-        rows.push(row.slice())?;
+        push_in_each(&mut rows, row.slice(), place)?;
     }
     Ok(rows)
 }

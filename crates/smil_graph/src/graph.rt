@@ -5,16 +5,15 @@ ghost use Rattle.std.specs.List.{position};
 ghost use Rattle.smil_model.specs.document.Valid.{IsNumberedTree};
 ghost use Rattle.smil_model.specs.reach.Reach as model;
 ghost use Rattle.smil_model.specs.document.Closure.{has};
-ghost use Rattle.smil_graph.specs.Graph.{document_of, is_follower_rank, is_reader_rank, looped_at, readers_of, IsGraphOrder};
+ghost use Rattle.smil_graph.specs.Graph.{document_of, is_follower_rank, is_reader_rank, looped_at, IsGraphOrder};
 ghost use Rattle.smil_model.specs.declared.document.Node.{Node as AnyNode};
 ghost use Rattle.smil_graph.specs.Tables.{marked_at, element_place, reach_of, AreElements, AreOf, AreTables};
 ghost use Rattle.smil_graph.specs.Places.{is_element_at, place_of};
 ghost use Rattle.smil_graph.specs.Reduced.{all_reduced};
 
-use super::alike::are_alike;
 use super::near::near;
 use super::outline::{TimeTree, is_element_at};
-use super::row::{row_at, serials_row};
+use super::row::row_at;
 use super::search::search;
 use super::short_list::ShortList;
 use super::tables::{Tables, serials_at, tables_of};
@@ -94,25 +93,9 @@ impl Graph {
         })
     }
 
-    /// The graph of an edited document, by this one of the document before, and whether the two are
-    /// alike in what a graph reads of them, as `are_alike` says; unless memory runs out. Where they
-    /// are alike it takes no memory and a step for each node and item, and else what `of` takes.
-    pub fn revised(&self, after: Tree) -> Result<Revised, AllocError>
-        ensures document { IfOk result (λ revised. document_of revised.graph ≡ after) }
-        ensures alike { IfOk result (λ revised. revised.alike ≡ true
-            → all_reduced self.now.nodes ≡ all_reduced revised.graph.nodes) }
-    {
-        let alike = are_alike(&self.tree, &after);
-        let graph = if alike {
-            self.shared(after)?
-        } else {
-            Graph::of(self.alloc, after)?
-        };
-        Ok(Revised { graph, alike })
-    }
-
-    // The graph of a document that is alike.
-    fn shared(&self, after: Tree) -> Result<Graph, AllocError>
+    /// The graph of a document of which a graph reads the same, as `are_alike` says; unless memory
+    /// runs out. What this graph has is shared: it takes no memory.
+    pub fn shared(&self, after: Tree) -> Result<Graph, AllocError>
         requires { all_reduced self.now.nodes ≡ all_reduced after.nodes }
         ensures { IfOk result (λ graph. document_of graph ≡ after) }
     {
@@ -143,16 +126,6 @@ impl Graph {
             Edge::Begin => is_marked(&tables.begins, place, item),
             Edge::End => is_marked(&tables.ends, place, item),
         }
-    }
-
-    /// The elements that read an element, in document order: those whose times follow from its
-    /// times, and those with an event or repeat item that means it; none for a serial of no
-    /// element. It takes no memory.
-    pub fn readers(&self, serial: u32) -> &[u32]
-        ensures { result.now ≡ readers_of self.now.nodes serial }
-    {
-        let tables = self.tables.as_ref();
-        serials_row(&tables.readers, self.tree.position(serial))
     }
 
     /// The ranks in the order of the elements that read the one at a rank. It takes no memory.
@@ -243,7 +216,7 @@ fn reach_at(
     let times = TimeTree {
         doc: tree,
         parents: tables.time_parents.as_slice(),
-        children: &tables.time_children,
+        children: tables.time_children.as_slice(),
     };
     let starts = near(alloc, &times, place)?;
     reach_from(alloc, tree, tables, starts.as_slice())
@@ -262,7 +235,7 @@ fn reach_from(
     ensures { IfOk result (λ reach. (set : List ℕ) → AreOf tree.now.nodes set starts.now
         → reach ≡ reach_of tree.now.nodes set) }
 {
-    let mut found = search(alloc, &tables.heads, starts)?;
+    let mut found = search(alloc, tables.heads.as_slice(), starts)?;
     found.sort_unstable()?;
     serials_at(alloc, tree, found.as_slice())
 }

@@ -21,5 +21,5 @@ mod tables;
 mod turned;
 mod waiting;
 
-pub use alike::are_alike;
+pub use alike::{are_alike, is_alike};
 pub use graph::{Graph, Revised};

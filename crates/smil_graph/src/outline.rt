@@ -7,9 +7,8 @@ ghost use Rattle.smil_model.specs.reach.Reach.{is_option};
 ghost use Rattle.smil_graph.specs.Links.{row, IsRising};
 ghost use Rattle.smil_graph.specs.Places.{up, IsTable, before, is_element_at, element_above, previous_of, AreTimeChildren};
 
-use super::row::{empty_rows, flat, push_at};
+use super::row::{empty_rows, push_at, row_at};
 use super::short_list::ShortList;
-use smil_flat_lists::FlatLists;
 use smil_model::{Kind, Node};
 use smil_tree::Tree;
 use std::alloc::{AllocError, Global};
@@ -19,7 +18,7 @@ use std::alloc::{AllocError, Global};
 pub struct TimeTree<'a> {
     pub doc: &'a Tree,
     pub parents: &'a [Option<usize>],
-    pub children: &'a FlatLists<usize>,
+    pub children: &'a [ShortList<usize>],
 }
 
 /// Whether a node is an element.
@@ -104,12 +103,12 @@ pub fn time_children(
     alloc: Global,
     tree: &Tree,
     time_parents: &[Option<usize>],
-) -> Result<FlatLists<usize>, AllocError>
+) -> Result<Vec<ShortList<usize>>, AllocError>
     requires { IsTable tree.now.nodes (λ n. model.time_parent tree.now.nodes n.serial)
         time_parents.now }
-    ensures count { IfOk result (λ rows. length rows ≡ length tree.now.nodes) }
+    ensures count { IfOk result (λ rows. length rows.items ≡ length tree.now.nodes) }
     ensures children { IfOk result
-        (λ rows. AreTimeChildren tree.now.nodes time_parents.now rows) }
+        (λ rows. AreTimeChildren tree.now.nodes time_parents.now rows.items) }
 {
     let mut rows = empty_rows(alloc, tree.len())?;
     for place in 0..tree.len() {
@@ -118,7 +117,7 @@ pub fn time_children(
             push_under(&mut rows, place_at(time_parents, place), place)?;
         }
     }
-    flat(alloc, rows.as_slice())
+    Ok(rows)
 }
 
 // Appends a place to the row of another, if there is one.
@@ -164,7 +163,7 @@ pub fn previous_in_seqs(
 fn previous_of(
     tree: &Tree,
     parent: Option<usize>,
-    time_children: &FlatLists<usize>,
+    time_children: &[ShortList<usize>],
     place: usize,
 ) -> Option<usize>
     requires { (q : ℕ) → IsRising (row time_children.now q) }
@@ -173,7 +172,7 @@ fn previous_of(
     match parent {
         Some(parent) => {
             if is_seq(tree, parent) {
-                one_before(time_children.at(parent), place)
+                one_before(row_at(time_children, parent), place)
             } else {
                 None
             }

@@ -7,7 +7,6 @@ ghost use Rattle.smil_graph.specs.Links.{row};
 ghost use Rattle.smil_graph.specs.Tables.{row_of};
 
 use super::short_list::ShortList;
-use smil_flat_lists::FlatLists;
 use std::alloc::{AllocError, Global};
 
 /// So many empty rows.
@@ -42,16 +41,6 @@ pub fn row_at(rows: &[ShortList<usize>], place: usize) -> &[usize]
 }
 
 /// The row at a place; it is empty where there is none.
-pub fn serials_row(rows: &FlatLists<u32>, place: Option<usize>) -> &[u32]
-    ensures { result.now ≡ row_of rows.now place }
-{
-    match place {
-        Some(place) => rows.at(place),
-        None => &[],
-    }
-}
-
-/// The row at a place; it is empty where there is none.
 pub fn row_of(rows: &[ShortList<usize>], place: Option<usize>) -> &[usize]
     ensures { result.now ≡ row_of rows.now place }
 {
@@ -59,17 +48,6 @@ pub fn row_of(rows: &[ShortList<usize>], place: Option<usize>) -> &[usize]
         Some(place) => row_at(rows, place),
         None => &[],
     }
-}
-
-/// The same rows, one behind the other.
-pub fn flat(alloc: Global, rows: &[ShortList<usize>]) -> Result<FlatLists<usize>, AllocError>
-    ensures { IfOk result (λ lists. lists ≡ rows.now) }
-{
-    let mut lists = FlatLists::with_capacity(alloc, rows.len())?;
-    for row in rows {
-        lists.push(row.slice())?;
-    }
-    Ok(lists)
 }
 
 /// The number at a place; 0 past the last one.

@@ -4,15 +4,16 @@ ghost use Rattle.std.specs.Prelude.{◌≡◌, length, nat_eq, OnOk, IfOk};
 ghost use Rattle.indexmap.specs.IndexSet.{insert_all};
 ghost use Rattle.smil_graph.specs.Links.{StayBelow, AreBelow, IsReached};
 
+use super::row::row_at;
+use super::short_list::ShortList;
 use indexmap::IndexSet;
-use smil_flat_lists::FlatLists;
 use std::alloc::{AllocError, Global};
 
 /// What is reached from the starts along the links of the rows, unless memory runs out. It takes
 /// time and memory for what is reached and its links alone.
 pub fn search(
     alloc: Global,
-    rows: &FlatLists<usize>,
+    rows: &[ShortList<usize>],
     starts: &[usize],
 ) -> Result<IndexSet<usize>, AllocError>
     requires rows { StayBelow (length rows.now) rows.now }
@@ -26,7 +27,7 @@ pub fn search(
             break;
         }
         let place = found.as_slice()[next];
-        insert_all(&mut found, rows.at(place))?;
+        insert_all(&mut found, row_at(rows, place))?;
     }
     Ok(found)
 }

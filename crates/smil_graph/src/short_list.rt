@@ -49,6 +49,13 @@ impl<T: Copy + MadeWith<Global>> ShortList<T> {
         self.items.extend_from_slice(items)
     }
 
+    /// Takes all elements away, and keeps the memory.
+    pub fn clear(&mut self)
+        ensures { self.new ≡ [] }
+    {
+        self.items.clear();
+    }
+
     /// The whole list. It takes no memory.
     pub fn slice(&self) -> &[T]
         ensures { result.now ≡ self.now }

@@ -1,54 +1,57 @@
 //! Which elements wait for which key.
 
-ghost use Rattle.std.specs.Prelude.{◌≡◌, ◌≤◌, ◌&&◌, [], length, OnOk, IfOk};
+ghost use Rattle.std.specs.Prelude.{◌≡◌, ◌<◌, ℕ, ◌&&◌, [], length, OnOk, IfOk};
 ghost use Rattle.std.specs.List.{list_any};
 ghost use Rattle.smil_model.specs.document.Defaults.{items_or};
 ghost use Rattle.smil_model.specs.document.Document.{is_element};
 ghost use Rattle.smil_model.specs.reach.Reach.{is_key_item, is_option};
+ghost use Rattle.smil_graph.specs.Links.{row};
 ghost use Rattle.smil_graph.specs.Tables.{has_key_item, key_of, AreWaiting, AreWithPlace};
 
-use super::row::{empty_rows, push_at};
+use super::row::push_at;
 use super::short_list::ShortList;
 use smil_model::{Item, Items, Node};
 use smil_tree::Tree;
 use std::alloc::{AllocError, Global};
 
-/// How many keys there are: one for each byte.
-pub const KEYS: usize = 256;
-
-/// For each key a row of the places of the elements that have an item for it.
+/// For each key, up to the highest one for which there is an item, a row of the places of the
+/// elements that have an item for it.
 pub fn waiting(alloc: Global, tree: &Tree) -> Result<Vec<ShortList<usize>>, AllocError>
     ensures { IfOk result (λ rows. AreWaiting tree.now.nodes rows.items) }
 {
-    let mut rows = empty_rows(alloc, KEYS)?;
+    let mut rows = Vec::new(alloc);
     for place in 0..tree.len() {
         let node = tree.at(place).unwrap();
-        push_waits(&mut rows, node, place)?;
+        push_waits(alloc, &mut rows, node, place)?;
     }
     Ok(rows)
 }
 
 // Puts the place of an element into the row of each key for which it has an item; that of a
 // priorityClass into none.
-fn push_waits(rows: &mut Vec<ShortList<usize>>, node: &Node, place: usize) -> Result<(), AllocError>
-    requires { KEYS ≤ length rows.old.items }
+fn push_waits(
+    alloc: Global,
+    rows: &mut Vec<ShortList<usize>>,
+    node: &Node,
+    place: usize,
+) -> Result<(), AllocError>
     ensures { OnOk result (AreWithPlace (λ key. is_element node.now && has_key_item key node.now)
         place rows.old.items rows.new.items) }
 {
     if !node.kind.is_element() {
         return Ok(());
     }
-    push_keys(rows, &node.attrs.begin, place)?;
-    push_keys(rows, &node.attrs.end, place)
+    push_keys(alloc, rows, &node.attrs.begin, place)?;
+    push_keys(alloc, rows, &node.attrs.end, place)
 }
 
 // Puts a place into the row of each key for which there is an item.
 fn push_keys(
+    alloc: Global,
     rows: &mut Vec<ShortList<usize>>,
     items: &Option<Items>,
     place: usize,
 ) -> Result<(), AllocError>
-    requires { KEYS ≤ length rows.old.items }
     ensures { OnOk result (AreWithPlace (λ key. list_any (is_key_item key) (items_or [] items.now))
         place rows.old.items rows.new.items) }
 {
@@ -56,7 +59,7 @@ fn push_keys(
         return Ok(());
     };
     for item in items.slice() {
-        push_key(rows, key_of(item), place)?;
+        push_key(alloc, rows, key_of(item), place)?;
     }
     Ok(())
 }
@@ -73,16 +76,31 @@ fn key_of(item: &Item) -> Option<u8>
 
 // Puts a place into the row of a key, if there is one.
 fn push_key(
+    alloc: Global,
     rows: &mut Vec<ShortList<usize>>,
     key: Option<u8>,
     place: usize,
 ) -> Result<(), AllocError>
-    requires { KEYS ≤ length rows.old.items }
     ensures { OnOk result
         (AreWithPlace (λ i. is_option i key) place rows.old.items rows.new.items) }
 {
     match key {
-        Some(key) => push_at(rows, key as usize, place),
+        Some(key) => {
+            add_rows(alloc, rows, key)?;
+            push_at(rows, key as usize, place)
+        }
         None => Ok(()),
     }
+}
+
+// Appends empty rows until there is one for the key.
+fn add_rows(alloc: Global, rows: &mut Vec<ShortList<usize>>, key: u8) -> Result<(), AllocError>
+    ensures there { OnOk result (key < length rows.new.items) }
+    ensures same { OnOk result ((i : ℕ) → row rows.new.items i ≡ row rows.old.items i) }
+{
+    let missing = (key as usize + 1).saturating_sub(rows.len());
+    for _ in 0..missing {
+        rows.push(ShortList::new(alloc))?;
+    }
+    Ok(())
 }

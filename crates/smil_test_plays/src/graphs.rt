@@ -20,7 +20,7 @@ pub fn graph(alloc: Global, words: &mut Words<'_>, out: &mut Bytes) -> Result<()
 fn put_graph(alloc: Global, out: &mut Bytes, doc: &Doc) -> Result<(), Fault>
     requires { IsValid doc.now }
 {
-    let graph = Graph::of(alloc, Tree::of_doc(alloc, doc)?)?.copy()?;
+    let graph = Graph::of(alloc, Tree::of_doc(alloc, doc.copy()?)?)?.copy()?;
     for node in doc.nodes() {
         put_node(alloc, out, &graph, node)?;
     }
@@ -32,7 +32,7 @@ fn put_node(alloc: Global, out: &mut Bytes, graph: &Graph, node: &Node) -> Resul
     put_number(out, node.serial)?;
     if node.kind.is_element() {
         put_word(out, "<")?;
-        put_serials(out, graph.readers(node.serial))?;
+        put_readers(alloc, out, graph, node.serial)?;
         let mut reach = Serials::new(alloc);
         graph.down(node.serial, &mut reach)?;
         put_word(out, ">")?;
@@ -40,6 +40,24 @@ fn put_node(alloc: Global, out: &mut Bytes, graph: &Graph, node: &Node) -> Resul
         put_loops(out, graph, node)?;
     }
     put_word(out, "/")
+}
+
+// The elements that read an element.
+fn put_readers(
+    alloc: Global,
+    out: &mut Bytes,
+    graph: &Graph,
+    serial: u32,
+) -> Result<(), AllocError> {
+    let mut readers = Serials::new(alloc);
+    if let Some(rank) = graph.place_in_order(serial) {
+        for reader in graph.reader_ranks(rank) {
+            if let Some(serial) = graph.order().get(*reader) {
+                readers.push(*serial)?;
+            }
+        }
+    }
+    put_serials(out, readers.slice())
 }
 
 // Which items of an element's begin and end lists are looped.

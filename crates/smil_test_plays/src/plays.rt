@@ -59,7 +59,7 @@ fn played<L: Ledger>(
     requires valid { IsValid script.now.doc }
 {
     let mut steps = Steps::<L>::new(blank);
-    let mut cells = PlainCells::new(alloc, &script.doc, &mut steps)?;
+    let mut cells = PlainCells::new(alloc, script.doc.copy()?, &mut steps)?;
     settle(&mut cells, 0, &mut steps)?;
     for line in script.lines.slice() {
         if let Some(order) = order_of(alloc, line.slice())? {

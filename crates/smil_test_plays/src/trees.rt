@@ -19,7 +19,7 @@ pub fn tree(alloc: Global, words: &mut Words<'_>, out: &mut Bytes) -> Result<(),
     let doc = document(alloc, outline)?;
     let mut editor = Editor {
         alloc,
-        tree: Tree::of_doc(alloc, &doc)?,
+        tree: Tree::of_doc(alloc, doc)?,
     };
     for line in lines_of(alloc, orders)?.slice() {
         if let Some(order) = order_of(alloc, line.slice())? {

@@ -3,8 +3,7 @@ use Rattle.std.specs.Prelude.{◌&&◌, slice_get, option_copied}
 use Rattle.smil_model.specs.document.Document.{is_element}
 use Rattle.smil_model.specs.reach.Reach.{is_option}
 use Rattle.smil_graph.specs.Links.{row}
-use Rattle.std.proofs.lemmas.Result.{IfOk-weaker}
-use Rattle.smil_graph.specs.Places.{AreTimeChildren, has_element, is_element_at, up}
+use Rattle.smil_graph.specs.Places.{has_element, is_element_at, up}
 use Rattle.smil_graph.proofs.GraphTables.{under_known}
 use Rattle.smil_graph.proofs.RowsTurned.{filter_more}
 use Rattle.smil_graph.proofs.outline.time_children.Goals as goal
@@ -43,15 +42,7 @@ loop-place-preserved c =
           })
     ]
 
-pub returns-clause-count : goal.returns-clause-count
-returns-clause-count c =
-    IfOk-weaker c.flat.result (λ lists. lists ≡ c.as_slice.result.now) (λ rows. length rows ≡ length c.args.tree.now.nodes)
-    (λ lists is. ap length (is ∙ c.as_slice.ensures.value) ∙ c.loop-place.invariant.count)
-    c.flat.ensures
-
 pub returns-clause-children : goal.returns-clause-children
 returns-clause-children c =
     let end : c.loop-place.place ≡ length c.args.tree.now.nodes = omega (arith, c.len-place-end.ensures, c.loop-place-test.false, c.loop-place.auto.place-end) in
-    IfOk-weaker c.flat.result (λ lists. lists ≡ c.as_slice.result.now) (λ rows. AreTimeChildren c.args.tree.now.nodes c.args.time_parents.now rows)
-    (λ lists is. rw (is, c.as_slice.ensures.value) (rw end at c.loop-place.invariant.rows))
-    c.flat.ensures
+    rw end at c.loop-place.invariant.rows

@@ -11,7 +11,7 @@ loop-next-init c =
 
 pub loop-next-preserved : goal.loop-next-preserved
 loop-next-preserved c =
-    let here : c.at.result.now ≡ row c.args.rows.now (get_or c.loop-next.found.keys c.loop-next.next 0) = c.at.ensures ∙ ap (λ xs. row c.args.rows.now (get_or xs c.loop-next.next 0)) c.as_slice.ensures.keys in
+    let here : c.row_at.result.now ≡ row c.args.rows.now (get_or c.loop-next.found.keys c.loop-next.next 0) = c.row_at.ensures ∙ ap (λ xs. row c.args.rows.now (get_or xs c.loop-next.next 0)) c.as_slice.ensures.keys in
     rw c.in_ok-insert_all-2.ensures (rw here (step c.args.rows.now c.args.starts.now c.loop-next.found.keys c.loop-next.next c.requires.rows c.loop-next.invariant (omega arith)))
 
 pub returns : goal.returns

@@ -1,12 +1,13 @@
 use Rattle.std.proofs.Common.{◌≡◌, sym, ◌∙◌, ap, arith, Some}
 use Rattle.std.specs.Prelude.{◌&&◌, slice_get, option_copied}
 use Rattle.smil_model.specs.document.Document.{is_element}
+use Rattle.smil_graph.specs.Links.{row}
 use Rattle.smil_graph.specs.Tables.{has_key_item}
 use Rattle.smil_graph.proofs.KeyRows.{none_waits, more_waits, waits_is, all_wait}
 use Rattle.smil_graph.proofs.waiting.waiting.Goals as goal
 
 pub loop-place-init : goal.loop-place-init
-loop-place-init c = none_waits c.args.tree.now.nodes c.in_ok-rows.rows.items c.in_ok-rows.ensures.count c.in_ok-rows.ensures.empty
+loop-place-init c = none_waits c.args.tree.now.nodes c.new-rows.result.items (λ i. ap (λ rows. row rows i) c.new-rows.ensures.items)
 
 pub loop-place-preserved : goal.loop-place-preserved
 loop-place-preserved c =

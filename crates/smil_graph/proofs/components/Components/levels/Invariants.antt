@@ -3,4 +3,4 @@ use Rattle.smil_graph.specs.Components.{level_of}
 use Rattle.smil_graph.proofs.components.Components.levels.Given as goal
 
 abbrev pub invariant-loop-mark : goal.invariant-loop-mark
-invariant-loop-mark l = l.levels.items ≡ map (level_of l.self.closed) (take l.mark-index l.self.marks)
+invariant-loop-mark l = l.levels.items ≡ map level_of (take l.mark-index l.self.marks)
