@@ -1,7 +1,7 @@
 -- How the lists of cells grow: one push, one after another, and all.
 use Rattle.std.proofs.Common.{◌≡◌, refl, sym, ◌∙◌, ap, ℕ, zero, suc, ◌+◌, ◌<◌, List, [], ◌∷◌, ◌++◌, Option, Some, None, Bool, true, false, length, get_or, arith, ◌≢◌}
 use mathlib.Core.Bool.{and-false}
-use Rattle.std.specs.Prelude.{cond, ◌==◌, ◌&&◌, slice_get, slice_set, count_by, option_map, OnOk, Result, Ok, Err}
+use Rattle.std.specs.Prelude.{cond, ◌==◌, ◌&&◌, ◌||◌, slice_get, slice_set, count_by, option_map, OnOk, Result, Ok, Err}
 use Rattle.std.proofs.lemmas.Bool.{eqb-true}
 use Rattle.std.proofs.lemmas.List.{length-set}
 use Rattle.std.proofs.lemmas.Option.{slice_get-map, slice_get_within, slice_get-get_or}
@@ -15,8 +15,7 @@ use Rattle.smil_laws.proofs.LineageParents.{same_eqb}
 use Rattle.smil_instance_rows.specs.declared.cell.Cell.{Cell}
 use Rattle.smil_instances.specs.Sources.{is_cell}
 use Rattle.smil_instances.specs.Dependents.{ElementDependents, cells_of, cells_in, source_in, source_or, source_under, sources_of}
-use Rattle.smil_instances.specs.Spread.{AreSourcesOf, IsIndex, Takes, goes_to, one_if, sources_at, sources_under, with_one}
-use Rattle.smil_model.specs.document.Valid.{same_test}
+use Rattle.smil_instances.specs.Spread.{AreSourcesOf, IsIndex, Takes, goes_to, one_if, sources_at, sources_under, with_cell}
 
 -- ---- in general
 
@@ -77,43 +76,43 @@ one_count d cell = let e = sum_by-cons (λ c. one_if (is_cell d c)) cell [] in o
 pub one_more : (d cell : Cell) (cells : List Cell) → count_by (is_cell d) (cells ++ cell ∷ []) ≡ count_by (is_cell d) cells + one_if (is_cell d cell)
 one_more d cell cells = sum_by-append (λ c. one_if (is_cell d c)) cells (cell ∷ []) ∙ ap (λ k. count_by (is_cell d) cells + k) (one_count d cell)
 
--- the list that is pushed to, and the other
-one_row : (old : ElementDependents) (b t : Bool) (cell d : Cell) → count_by (is_cell d) (cells_of t (Some (with_one old b cell))) ≡ count_by (is_cell d) (cells_of t (Some old)) + one_if (same_test t b && true && is_cell d cell)
+-- the lists that are pushed to, and the other
+one_row : (old : ElementDependents) (m t : Bool) (cell d : Cell) → count_by (is_cell d) (cells_of t (Some (with_cell old m cell))) ≡ count_by (is_cell d) (cells_of t (Some old)) + one_if ((t || m) && true && is_cell d cell)
 one_row old true true cell d = one_more d cell old.births
-one_row old false false cell d = one_more d cell old.readers
-one_row old true false cell d = omega arith
-one_row old false true cell d = omega arith
+one_row old true false cell d = one_more d cell old.readers
+one_row old false true cell d = one_more d cell old.births
+one_row old false false cell d = omega arith
 
-same_sources : (old : ElementDependents) (b : Bool) (cell : Cell) (side : Edge) → sources_of (with_one old b cell) side ≡ sources_of old side
+same_sources : (old : ElementDependents) (m : Bool) (cell : Cell) (side : Edge) → sources_of (with_cell old m cell) side ≡ sources_of old side
 same_sources old true cell Begin = refl
 same_sources old true cell End = refl
 same_sources old false cell Begin = refl
 same_sources old false cell End = refl
 
-pub pushed : (nodes : List Node) (rows : List ElementDependents) (at : ℕ) (old : ElementDependents) (who : ℕ) (b : Bool) (cell : Cell) → slice_get rows at ≡ Some old → at < length rows → ((x : Node) (row : ℕ) → slice_get (elements nodes) row ≡ Some x → row == at ≡ is_option x.serial (Some who)) → Takes nodes (goes_to (Some who) b cell) rows (slice_set rows at (with_one old b cell))
-pushed nodes rows at old who b cell there below own = record {
+pub pushed : (nodes : List Node) (rows : List ElementDependents) (at : ℕ) (old : ElementDependents) (who : ℕ) (m : Bool) (cell : Cell) → slice_get rows at ≡ Some old → at < length rows → ((x : Node) (row : ℕ) → slice_get (elements nodes) row ≡ Some x → row == at ≡ is_option x.serial (Some who)) → Takes nodes (goes_to (Some who) m cell) rows (slice_set rows at (with_cell old m cell))
+pushed nodes rows at old who m cell there below own = record {
   sources = λ row side. ap (sources_under side) (set_get rows at row new below) ∙ by_sources row side (row == at) refl;
   rows = length-set rows at new;
   cells = λ row x t d here.
       ap (λ o. count_by (is_cell d) (cells_of t o)) (set_get rows at row new below)
       ∙ by_cells row t d (row == at) refl
-      ∙ ap (λ u. count_by (is_cell d) (cells_in rows row t) + one_if (same_test t b && u && is_cell d cell)) (own x row here);
+      ∙ ap (λ u. count_by (is_cell d) (cells_in rows row t) + one_if ((t || m) && u && is_cell d cell)) (own x row here);
 }
   where
     new : ElementDependents
-    new = with_one old b cell
+    new = with_cell old m cell
 
     by_sources : (row : ℕ) (side : Edge) (u : Bool) → row == at ≡ u → sources_under side (cond u (Some new) (slice_get rows row)) ≡ sources_at rows row side
-    by_sources row side true q = same_sources old b cell side ∙ ap (sources_under side) (sym (ap (slice_get rows) (eqb-true row at q) ∙ there))
+    by_sources row side true q = same_sources old m cell side ∙ ap (sources_under side) (sym (ap (slice_get rows) (eqb-true row at q) ∙ there))
     by_sources row side false q = refl
 
-    by_cells : (row : ℕ) (t : Bool) (d : Cell) (u : Bool) → row == at ≡ u → count_by (is_cell d) (cells_of t (cond u (Some new) (slice_get rows row))) ≡ count_by (is_cell d) (cells_in rows row t) + one_if (same_test t b && (row == at) && is_cell d cell)
+    by_cells : (row : ℕ) (t : Bool) (d : Cell) (u : Bool) → row == at ≡ u → count_by (is_cell d) (cells_of t (cond u (Some new) (slice_get rows row))) ≡ count_by (is_cell d) (cells_in rows row t) + one_if ((t || m) && (row == at) && is_cell d cell)
     by_cells row t d true q =
-        one_row old b t cell d
-        ∙ ap (λ o. count_by (is_cell d) (cells_of t o) + one_if (same_test t b && true && is_cell d cell)) (sym (ap (slice_get rows) (eqb-true row at q) ∙ there))
-        ∙ ap (λ u. count_by (is_cell d) (cells_in rows row t) + one_if (same_test t b && u && is_cell d cell)) (sym q)
+        one_row old m t cell d
+        ∙ ap (λ o. count_by (is_cell d) (cells_of t o) + one_if ((t || m) && true && is_cell d cell)) (sym (ap (slice_get rows) (eqb-true row at q) ∙ there))
+        ∙ ap (λ u. count_by (is_cell d) (cells_in rows row t) + one_if ((t || m) && u && is_cell d cell)) (sym q)
     by_cells row t d false q =
-        let none : one_if (same_test t b && (row == at) && is_cell d cell) ≡ 0 = ap (λ u. one_if (same_test t b && u && is_cell d cell)) q ∙ ap (λ u. one_if (u && is_cell d cell)) (and-false (same_test t b)) in
+        let none : one_if ((t || m) && (row == at) && is_cell d cell) ≡ 0 = ap (λ u. one_if ((t || m) && u && is_cell d cell)) q ∙ ap (λ u. one_if (u && is_cell d cell)) (and-false (t || m)) in
         omega (arith, none)
 
 -- ---- by serial
@@ -139,15 +138,15 @@ module _ (nodes : List Node) (index : ℕ → Option ℕ) (all : IsIndex (serial
 
   pub noted_none : (rows : List ElementDependents) (who : ℕ) (b : Bool) (cell : Cell) → None ≡ index who → Takes nodes (goes_to (Some who) b cell) rows rows
   noted_none rows who b cell q =
-      takes_none nodes (goes_to (Some who) b cell) rows (λ row x t d here. ap (λ u. same_test t b && u && is_cell d cell) (sym (by_place who row x here) ∙ ap (is_option row) (sym q)) ∙ no_one (same_test t b) (is_cell d cell))
+      takes_none nodes (goes_to (Some who) b cell) rows (λ row x t d here. ap (λ u. (t || b) && u && is_cell d cell) (sym (by_place who row x here) ∙ ap (is_option row) (sym q)) ∙ no_one ((t || b)) (is_cell d cell))
     where
       no_one : (u v : Bool) → (u && false && v) ≡ false
       no_one true v = refl
       no_one false v = refl
 
-  pub noted : (rows : List ElementDependents) (who at : ℕ) (old : ElementDependents) (b : Bool) (cell : Cell) → Some at ≡ index who → length rows ≡ length (elements nodes) → old ≡ get_or rows at old → Takes nodes (goes_to (Some who) b cell) rows (slice_set rows at (with_one old b cell))
-  noted rows who at old b cell q same is =
-      pushed nodes rows at old who b cell (slice_get-get_or rows at old below ∙ ap Some (sym is)) below
+  pub noted : (rows : List ElementDependents) (who at : ℕ) (old : ElementDependents) (m : Bool) (cell : Cell) → Some at ≡ index who → length rows ≡ length (elements nodes) → old ≡ get_or rows at old → Takes nodes (goes_to (Some who) m cell) rows (slice_set rows at (with_cell old m cell))
+  noted rows who at old m cell q same is =
+      pushed nodes rows at old who m cell (slice_get-get_or rows at old below ∙ ap Some (sym is)) below
       (λ x row here. ap (is_option row) q ∙ by_place who row x here)
     where
       below : at < length rows

@@ -2,14 +2,14 @@
 use Rattle.std.proofs.Common.{◌≡◌, refl, sym, ◌∙◌, ap, ℕ, ◌+◌, ◌<◌, ◌≤◌, List, [], Option, Some, None, Bool, true, false, length, map, get_or, arith}
 use mathlib.Core.Bool.{and-false, and-true}
 use Rattle.std.specs.Prelude.{◌==◌, ◌&&◌, ◌||◌, not, nat_lt, slice_get, count_by, option_map}
-use Rattle.std.proofs.lemmas.Bool.{eqb-true, and_parts, lt-ltb, ltb-false}
+use Rattle.std.proofs.lemmas.Bool.{eq-eqb, eqb-true, and_parts, lt-ltb, ltb-false}
 use Rattle.std.proofs.lemmas.List.{length-map}
 use Rattle.std.proofs.lemmas.Option.{slice_get-map, slice_get_within, slice_get_past, slice_get-get_or}
 use Rattle.smil_model.specs.declared.document.Node.{Node}
 use Rattle.smil_model.specs.declared.document.Edge.{Edge}
 use Rattle.smil_model.specs.declared.document.Edge.TheVariants.{Begin, End}
 use Rattle.smil_model.specs.declared.document.Item.{Item}
-use Rattle.smil_model.specs.document.Document.{elements, has_serial}
+use Rattle.smil_model.specs.document.Document.{elements, has_serial, serial_of, serials, time_parent}
 use Rattle.smil_model.specs.reach.Reach.{is_option}
 use Rattle.smil_instances.specs.declared.source.Source.{Source}
 use Rattle.smil_instances.specs.declared.source.Source.TheVariants as source
@@ -19,14 +19,14 @@ use Rattle.smil_model.specs.document.Defaults.{items_of}
 use Rattle.smil_instances.specs.Sources as kept
 use Rattle.smil_instances.specs.Dependents.{AreDependentsOf, ElementDependents, cells_in, cells_of, keyed_in, source_in, source_or, source_under, sources_of}
 use Rattle.smil_instances.specs.Keys.{is_for_key}
-use Rattle.smil_instances.specs.Spread.{AreSourcesOf, Takes, first_items, first_of_side, first_rows, fresh_row, fresh_rows, goes_to, goes_to_all, is_of_side, of_first_rows, of_row, of_side, one_if, side_items}
-use Rattle.smil_model.specs.document.Valid.{same_test}
+use Rattle.smil_instances.specs.Spread.{AreSourcesOf, IsParentAt, Takes, first_items, first_of_side, first_rows, fresh_row, fresh_rows, goes_to, goes_to_all, is_of_side, of_first_rows, of_row, of_side, one_if, side_items}
 use Rattle.smil_instances.proofs.CellGrowth.{sources_stay}
+use Rattle.smil_instances.proofs.EmptyRows.{at_place}
 use Rattle.smil_instances.proofs.RowShapes.{same_cell, same_edge}
 
 -- ---- one cell
 
-sums : (b B A S : Bool) → one_if (same_test b false && B && true) + one_if (same_test b true && B && true) + one_if (same_test b true && (A && not (B || false)) && true) + one_if (same_test b true && (S && not (B || A)) && true) ≡ one_if (B || (b && (A || S)))
+sums : (b B A S : Bool) → one_if ((b || true) && B && true) + one_if ((b || false) && (A && not (B || false)) && true) + one_if ((b || false) && (S && not (B || A)) && true) ≡ one_if (B || (b && (A || S)))
 sums true true true true = refl
 sums true true true false = refl
 sums true true false true = refl
@@ -47,16 +47,13 @@ module _ (nodes : List Node) (who : ℕ) (cell : Cell) (here : has_serial who (s
       by_node (Some e) q = ap (λ s. is_concerned nodes b x s (source_at nodes cell)) (eqb-true e.serial who q)
 
   module _ (s : Source) (is : s ≡ source_at nodes cell) (base above beside third fourth : Option ℕ) (base_is : base ≡ base_of s) (resets : (x : ℕ) → (is_option x above || is_option x beside) ≡ is_reset_with nodes x who s) (third_is : (x : ℕ) → is_option x third ≡ (is_option x above && not (is_option x base || is_option x None))) (fourth_is : (x : ℕ) → is_option x fourth ≡ (is_option x beside && not (is_option x base || is_option x above))) where
-    once : (b : Bool) (x : ℕ) (d : Cell) → one_if (goes_to base false cell b x d) + one_if (goes_to base true cell b x d) + one_if (goes_to third true cell b x d) + one_if (goes_to fourth true cell b x d) ≡ one_if (goes_to_all nodes cell b x d)
+    once : (b : Bool) (x : ℕ) (d : Cell) → one_if (goes_to base true cell b x d) + one_if (goes_to third false cell b x d) + one_if (goes_to fourth false cell b x d) ≡ one_if (goes_to_all nodes cell b x d)
     once b x d = by_cell (is_cell d cell) refl
       where
         no_one : (u v : Bool) → one_if (u && v && false) ≡ 0
         no_one true true = refl
         no_one true false = refl
         no_one false v = refl
-
-        all_of : (k : Bool) → ℕ
-        all_of k = one_if (same_test b false && is_option x base && k) + one_if (same_test b true && is_option x base && k) + one_if (same_test b true && is_option x third && k) + one_if (same_test b true && is_option x fourth && k)
 
         concerned : is_cell d cell ≡ true → (is_option x base || (b && (is_option x above || is_option x beside))) ≡ concerns_cell nodes b x d
         concerned q =
@@ -66,34 +63,32 @@ module _ (nodes : List Node) (who : ℕ) (cell : Cell) (here : has_serial who (s
             ∙ sym (concerns_is b x)
             ∙ ap (concerns_cell nodes b x) (sym (same_cell cell d q))
 
-        by_cell : (k : Bool) → is_cell d cell ≡ k → one_if (same_test b false && is_option x base && is_cell d cell) + one_if (same_test b true && is_option x base && is_cell d cell) + one_if (same_test b true && is_option x third && is_cell d cell) + one_if (same_test b true && is_option x fourth && is_cell d cell) ≡ one_if (is_cell d cell && concerns_cell nodes b x d)
+        by_cell : (k : Bool) → is_cell d cell ≡ k → one_if ((b || true) && is_option x base && is_cell d cell) + one_if ((b || false) && is_option x third && is_cell d cell) + one_if ((b || false) && is_option x fourth && is_cell d cell) ≡ one_if (is_cell d cell && concerns_cell nodes b x d)
         by_cell true q =
-            ap (λ k. one_if (same_test b false && is_option x base && k) + one_if (same_test b true && is_option x base && k) + one_if (same_test b true && is_option x third && k) + one_if (same_test b true && is_option x fourth && k)) q
-            ∙ ap (λ t. one_if (same_test b false && is_option x base && true) + one_if (same_test b true && is_option x base && true) + one_if (same_test b true && t && true) + one_if (same_test b true && is_option x fourth && true)) (third_is x)
-            ∙ ap (λ t. one_if (same_test b false && is_option x base && true) + one_if (same_test b true && is_option x base && true) + one_if (same_test b true && (is_option x above && not (is_option x base || false)) && true) + one_if (same_test b true && t && true)) (fourth_is x)
+            ap (λ k. one_if ((b || true) && is_option x base && k) + one_if ((b || false) && is_option x third && k) + one_if ((b || false) && is_option x fourth && k)) q
+            ∙ ap (λ t. one_if ((b || true) && is_option x base && true) + one_if ((b || false) && t && true) + one_if ((b || false) && is_option x fourth && true)) (third_is x)
+            ∙ ap (λ t. one_if ((b || true) && is_option x base && true) + one_if ((b || false) && (is_option x above && not (is_option x base || false)) && true) + one_if ((b || false) && t && true)) (fourth_is x)
             ∙ sums b (is_option x base) (is_option x above) (is_option x beside)
             ∙ ap one_if (concerned q)
             ∙ ap (λ k. one_if (k && concerns_cell nodes b x d)) (sym q)
         by_cell false q =
-            let a = no_one (same_test b false) (is_option x base) in
-            let e = no_one (same_test b true) (is_option x base) in
-            let f = no_one (same_test b true) (is_option x third) in
-            let g = no_one (same_test b true) (is_option x fourth) in
-            ap (λ k. one_if (same_test b false && is_option x base && k) + one_if (same_test b true && is_option x base && k) + one_if (same_test b true && is_option x third && k) + one_if (same_test b true && is_option x fourth && k)) q
-            ∙ omega (arith, a, e, f, g)
+            let e = no_one (b || true) (is_option x base) in
+            let f = no_one (b || false) (is_option x third) in
+            let g = no_one (b || false) (is_option x fourth) in
+            ap (λ k. one_if ((b || true) && is_option x base && k) + one_if ((b || false) && is_option x third && k) + one_if ((b || false) && is_option x fourth && k)) q
+            ∙ omega (arith, e, f, g)
             ∙ ap (λ k. one_if (k && concerns_cell nodes b x d)) (sym q)
 
-    pub cell_noted : (r0 r1 r2 r3 r4 : List ElementDependents) → Takes nodes (goes_to base false cell) r0 r1 → Takes nodes (goes_to base true cell) r1 r2 → Takes nodes (goes_to third true cell) r2 r3 → Takes nodes (goes_to fourth true cell) r3 r4 → Takes nodes (goes_to_all nodes cell) r0 r4
-    cell_noted r0 r1 r2 r3 r4 one two three four = record {
-      sources = λ row side. four.sources row side ∙ three.sources row side ∙ two.sources row side ∙ one.sources row side;
-      rows = four.rows ∙ three.rows ∙ two.rows ∙ one.rows;
+    pub cell_noted : (r0 r1 r2 r3 : List ElementDependents) → Takes nodes (goes_to base true cell) r0 r1 → Takes nodes (goes_to third false cell) r1 r2 → Takes nodes (goes_to fourth false cell) r2 r3 → Takes nodes (goes_to_all nodes cell) r0 r3
+    cell_noted r0 r1 r2 r3 one two three = record {
+      sources = λ row side. three.sources row side ∙ two.sources row side ∙ one.sources row side;
+      rows = three.rows ∙ two.rows ∙ one.rows;
       cells = λ row x t d at.
           let a = one.cells row x t d at in
           let b = two.cells row x t d at in
           let c = three.cells row x t d at in
-          let e = four.cells row x t d at in
           let f = once t x.serial d in
-          omega (arith, a, b, c, e, f);
+          omega (arith, a, b, c, f);
     }
 
 -- ---- the cells of one side
@@ -122,12 +117,13 @@ items_next row side i test d = by_tests (d.row == row) (is_same_edge d.side side
 
 -- ---- all of one side
 
-pub row_below : (ns : List Node) (who row : ℕ) → has_serial who (slice_get ns row) ≡ true → row < length ns
-row_below ns who row q = by_node (slice_get ns row) refl q
-  where
-    by_node : (o : Option Node) → slice_get ns row ≡ o → has_serial who o ≡ true → row < length ns
-    by_node None at r = cc
-    by_node (Some n) at r = slice_get_within ns row n at
+pub serial_there : (ns : List Node) (row : ℕ) (x : Node) → slice_get ns row ≡ Some x → has_serial x.serial (slice_get ns row) ≡ true
+serial_there ns row x at = ap (has_serial x.serial) at ∙ eq-eqb x.serial x.serial refl
+
+pub parent_at : (nodes : List Node) (whos : List ℕ) (row : ℕ) (above : Option ℕ) → whos ≡ serials (elements nodes) → row < length whos → above ≡ serial_of (time_parent nodes (get_or whos row 0)) → IsParentAt nodes above row
+parent_at nodes whos row above are below is =
+    let here = at_place (elements nodes) whos row are below in
+    (here.node, here.at, is ∙ ap (λ who. serial_of (time_parent nodes who)) here.serial)
 
 pub row_there : (rows : List ElementDependents) (row : ℕ) (r : ElementDependents) → r ≡ get_or rows row r → row < length rows → slice_get rows row ≡ Some r
 row_there rows row r is below = slice_get-get_or rows row r below ∙ ap Some (sym is)

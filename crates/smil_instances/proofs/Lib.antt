@@ -47,4 +47,3 @@ pub mod Going
 pub mod Early
 pub mod AlikeDependents
 pub mod IdleCells
-pub mod JoinedRows

@@ -14,4 +14,3 @@ pub mod Sources
 pub mod Spread
 pub mod Updates
 pub mod Noted
-pub mod Joined

@@ -1,8 +1,8 @@
 -- How what is kept of each element grows, cell by cell.
-use Rattle.std.specs.Prelude.{◌≡◌, ℕ, ◌+◌, List, [], ◌∷◌, ◌++◌, length, map, count_by, Bool, true, false, ◌&&◌, ◌==◌, nat_lt, if◌then◌else◌, Option, Some, None, slice_get}
+use Rattle.std.specs.Prelude.{◌≡◌, ℕ, ◌+◌, List, [], ◌∷◌, ◌++◌, length, map, count_by, Bool, true, false, ◌&&◌, ◌||◌, ◌==◌, nat_lt, if◌then◌else◌, Option, Some, None, slice_get}
 use Rattle.smil_model.specs.declared.document.Node.{Node}
 use Rattle.smil_model.specs.declared.document.Edge.{Edge}
-use Rattle.smil_model.specs.document.Document.{elements, is_element}
+use Rattle.smil_model.specs.document.Document.{elements, is_element, serial_of, time_parent}
 use Rattle.smil_model.specs.document.Defaults.{begin_list, end_list}
 use Rattle.smil_model.specs.declared.order.Who.{Who}
 use Rattle.smil_model.specs.shown.Orders.{node_of}
@@ -11,14 +11,14 @@ use Rattle.smil_instances.specs.declared.source.Source.{Source}
 use Rattle.smil_instance_rows.specs.declared.cell.Cell.{Cell}
 use Rattle.smil_instances.specs.Sources.{concerns_cell, is_cell, is_same_edge, source_at, source_of}
 use Rattle.smil_instances.specs.Dependents.{ElementDependents, cells_in, source_in, sources_of}
-use Rattle.smil_model.specs.document.Valid.{same_test}
 
 -- ---- rows
 
--- a row with one more cell that an entry, which is a birth or not, can concern
-abbrev pub with_one : ElementDependents → Bool → Cell → ElementDependents
-with_one row true cell = record row { births = row.births ++ cell ∷ [] }
-with_one row false cell = record row { readers = row.readers ++ cell ∷ [] }
+-- a row with one more cell that a birth can concern, and any entry where the cell names the element
+abbrev pub with_cell : ElementDependents → Bool → Cell → ElementDependents
+with_cell row true cell =
+    record row { readers = row.readers ++ cell ∷ []; births = row.births ++ cell ∷ [] }
+with_cell row false cell = record row { births = row.births ++ cell ∷ [] }
 
 -- a row with these sources, and no cell yet
 abbrev pub without_cells : List Source → List Source → ElementDependents
@@ -57,6 +57,12 @@ only_element (Some n) = if is_element n then Some n else None
 abbrev pub element_of : List Node → Who → Option Node
 element_of nodes who = only_element (node_of nodes who)
 
+-- there is an element at this place, and this is the serial of its time parent
+abbrev pub IsParentAt : List Node → Option ℕ → ℕ → Type 0
+IsParentAt nodes above row =
+    (x : Node) × (slice_get (elements nodes) row ≡ Some x)
+    × (above ≡ serial_of (time_parent nodes x.serial))
+
 -- ---- places
 
 -- cells that pass: of the first items of one side, of one side, of one element,
@@ -91,9 +97,10 @@ pub record Takes (nodes : List Node) (test : Bool → ℕ → Cell → Bool)
       → count_by (is_cell d) (cells_in new row is_birth)
       ≡ count_by (is_cell d) (cells_in old row is_birth) + one_if (test is_birth x.serial d)
 
--- the cell goes to the list of one element, if there is one
+-- the cell goes to the births of one element, if there is one, and where it names that element
+-- to all its entries
 abbrev pub goes_to : Option ℕ → Bool → Cell → Bool → ℕ → Cell → Bool
-goes_to who is_birth cell b x d = same_test b is_birth && is_option x who && is_cell d cell
+goes_to who is_named cell b x d = (b || is_named) && is_option x who && is_cell d cell
 
 -- the cell goes to the lists of the elements that can concern it
 abbrev pub goes_to_all : List Node → Cell → Bool → ℕ → Cell → Bool

@@ -6,7 +6,7 @@ ghost use Rattle.smil_model.specs.document.Document.{elements, serials};
 ghost use Rattle.smil_instances.specs.Dependents.{AreDependentsOf, cells_in, keyed_in, source_in};
 ghost use Rattle.smil_instances.specs.Spread.{IsIndex};
 
-use super::dependent_lists::DependentLists;
+use super::dependents_row::DependentsRow;
 use super::elements::children_before;
 use super::fill::fill;
 use super::fresh::fresh_rows;
@@ -24,7 +24,7 @@ use std::marker::Model;
 /// the list of what is kept of each element, in document order, and the list of the cells of each
 /// key, from 0.
 pub struct Dependents {
-    rows: DependentLists,
+    rows: Vec<DependentsRow>,
     keys: Vec<GrowingList<Cell>>,
 }
 
@@ -43,7 +43,7 @@ impl Model for Dependents {
 
     ghost Value = { DocumentDependents };
 
-    ghost view = { λ a. record { rows = a.rows; keys = a.keys.items } };
+    ghost view = { λ a. record { rows = a.rows.items; keys = a.keys.items } };
 }
 
 impl Dependents {
@@ -63,17 +63,17 @@ impl Dependents {
         let mut rows = fresh_rows(alloc, tree, whos, &befores)?;
         let keys = cells_by_key(alloc, &rows)?;
         fill(&mut rows, tree, places, whos)?;
-        Ok(Dependents {
-            rows: DependentLists::of(alloc, &rows)?,
-            keys,
-        })
+        Ok(Dependents { rows, keys })
     }
 
     /// The source of a cell's item; nothing where there is no such item. It takes no memory.
     pub fn source(&self, cell: Cell) -> Source
         ensures { result ≡ source_in self.now.rows cell }
     {
-        self.rows.source(cell)
+        match self.rows.get(cell.row) {
+            Some(row) => row.source(cell.side, cell.item),
+            None => Source::Nothing,
+        }
     }
 
     /// The cells that an entry on the element at a place among the elements can concern, which is a
@@ -81,7 +81,10 @@ impl Dependents {
     pub fn cells(&self, row: usize, is_birth: bool) -> &[Cell]
         ensures { result.now ≡ cells_in self.now.rows row is_birth }
     {
-        self.rows.cells(row, is_birth)
+        match self.rows.get(row) {
+            Some(own) => own.cells(is_birth),
+            None => &[],
+        }
     }
 
     /// The cells that a press of an access key can concern: those whose items wait for it. It takes

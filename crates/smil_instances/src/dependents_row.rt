@@ -2,7 +2,7 @@
 
 ghost use Rattle.std.specs.Prelude.{◌≡◌, slice_get, OnOk};
 ghost use Rattle.smil_instances.specs.Dependents.{cells_of, source_or, sources_of};
-ghost use Rattle.smil_instances.specs.Spread.{with_one, without_cells};
+ghost use Rattle.smil_instances.specs.Spread.{with_cell, without_cells};
 
 use super::source::Source;
 use smallvec::SmallVec;
@@ -85,15 +85,15 @@ impl DependentsRow {
         }
     }
 
-    /// Appends a cell to those that an entry on the element can concern, which is a birth or not.
-    pub fn push(&mut self, is_birth: bool, cell: Cell) -> Result<(), AllocError>
-        ensures { OnOk result (self.new ≡ with_one self.old is_birth cell) }
+    /// Appends a cell to those that a birth of the element can concern, and where the cell's item
+    /// names the element, also to those that any entry on it can concern.
+    pub fn add(&mut self, is_named: bool, cell: Cell) -> Result<(), AllocError>
+        ensures { OnOk result (self.new ≡ with_cell self.old is_named cell) }
     {
-        if is_birth {
-            self.births.push(cell)?;
-        } else {
+        if is_named {
             self.readers.push(cell)?;
         }
+        self.births.push(cell)?;
         Ok(())
     }
 }

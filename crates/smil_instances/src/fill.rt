@@ -1,11 +1,11 @@
 //! Each cell is noted with the elements whose entries can concern it.
 
-ghost use Rattle.std.specs.Prelude.{◌≡◌, ℕ, ◌<◌, ◌&&◌, ◌||◌, not, true, length, slice_get, OnOk};
+ghost use Rattle.std.specs.Prelude.{◌≡◌, ℕ, ◌&&◌, ◌||◌, not, length, OnOk};
 ghost use Rattle.std.specs.FinMap.{get};
-ghost use Rattle.smil_model.specs.document.Document.{elements, has_serial, serials};
+ghost use Rattle.smil_model.specs.document.Document.{elements, serial_of, serials, time_parent};
 ghost use Rattle.smil_model.specs.reach.Reach.{is_option};
 ghost use Rattle.smil_instances.specs.Sources.{base_of, is_reset_with};
-ghost use Rattle.smil_instances.specs.Spread.{AreSourcesOf, IsIndex, Takes, first_rows, goes_to, goes_to_all, side_items};
+ghost use Rattle.smil_instances.specs.Spread.{AreSourcesOf, IsIndex, IsParentAt, Takes, first_rows, goes_to, goes_to_all, side_items};
 
 use super::dependents_row::DependentsRow;
 use super::source::Source;
@@ -31,8 +31,9 @@ pub fn fill(
 {
     let index = Index { tree, places };
     for (row, who) in whos.iter().enumerate() {
-        index.fill_side(rows, *who, row, Edge::Begin)?;
-        index.fill_side(rows, *who, row, Edge::End)?;
+        let above = parent_of(tree, *who);
+        index.fill_side(rows, above, row, Edge::Begin)?;
+        index.fill_side(rows, above, row, Edge::End)?;
     }
     Ok(())
 }
@@ -45,15 +46,15 @@ struct Index<'a> {
 }
 
 impl Index<'_> {
-    // Notes each cell of one side of an element in the rows.
+    // Notes each cell of one side of an element, whose time parent is `above`, in the rows.
     fn fill_side(
         &self,
         rows: &mut [DependentsRow],
-        who: u32,
+        above: Option<u32>,
         row: usize,
         side: Edge,
     ) -> Result<(), AllocError>
-        requires who { has_serial who (slice_get (elements self.now.tree.now.nodes) row) ≡ true }
+        requires above { IsParentAt self.now.tree.now.nodes above row }
         requires places { IsIndex (serials (elements self.now.tree.now.nodes))
             (get self.now.places.now) }
         requires rows { length rows.old ≡ length (elements self.now.tree.now.nodes) }
@@ -62,15 +63,20 @@ impl Index<'_> {
             (side_items self.now.tree.now.nodes row side) rows.old rows.new) }
     {
         for item in 0..rows[row].sources(side).len() {
-            self.fill_cell(rows, who, Cell { row, side, item })?;
+            self.fill_cell(rows, above, Cell { row, side, item })?;
         }
         Ok(())
     }
 
-    // Notes a cell of an element in the rows of the elements whose entries can concern it.
-    fn fill_cell(&self, rows: &mut [DependentsRow], who: u32, cell: Cell) -> Result<(), AllocError>
-        requires who { has_serial who (slice_get (elements self.now.tree.now.nodes) cell.row)
-            ≡ true }
+    // Notes a cell of an element, whose time parent is `above`, in the rows of the elements whose
+    // entries can concern it.
+    fn fill_cell(
+        &self,
+        rows: &mut [DependentsRow],
+        above: Option<u32>,
+        cell: Cell,
+    ) -> Result<(), AllocError>
+        requires above { IsParentAt self.now.tree.now.nodes above cell.row }
         requires places { IsIndex (serials (elements self.now.tree.now.nodes))
             (get self.now.places.now) }
         requires rows { length rows.old ≡ length (elements self.now.tree.now.nodes) }
@@ -80,30 +86,30 @@ impl Index<'_> {
     {
         let source = rows[cell.row].source(cell.side, cell.item);
         let base = base_of(source);
-        let (above, beside) = resets_of(self.tree, who, source);
-        self.note(rows, base, false, cell)?;
+        let (first, second) = resets_of(self.tree, above, source);
         self.note(rows, base, true, cell)?;
-        self.note(rows, other_than(above, base, None), true, cell)?;
-        self.note(rows, other_than(beside, base, above), true, cell)
+        self.note(rows, other_than(first, base, None), false, cell)?;
+        self.note(rows, other_than(second, base, first), false, cell)
     }
 
-    // Notes a cell in the row of an element, if there is one.
+    // Notes a cell in the row of an element, if there is one: among those that its births concern,
+    // and where the cell names it, among those that all its entries concern.
     fn note(
         &self,
         rows: &mut [DependentsRow],
         who: Option<u32>,
-        is_birth: bool,
+        is_named: bool,
         cell: Cell,
     ) -> Result<(), AllocError>
         requires places { IsIndex (serials (elements self.now.tree.now.nodes))
             (get self.now.places.now) }
         requires rows { length rows.old ≡ length (elements self.now.tree.now.nodes) }
-        ensures { OnOk result (Takes self.now.tree.now.nodes (goes_to who is_birth cell) rows.old
+        ensures { OnOk result (Takes self.now.tree.now.nodes (goes_to who is_named cell) rows.old
             rows.new) }
     {
         let Some(who) = who else { return Ok(()) };
         match self.places.get(who) {
-            Some(row) => rows[row].push(is_birth, cell),
+            Some(row) => rows[row].add(is_named, cell),
             None => Ok(()),
         }
     }
@@ -119,13 +125,12 @@ fn base_of(source: Source) -> Option<u32>
     }
 }
 
-// The elements of whose children a birth can change what is kept for an item of an element with
-// this source.
-fn resets_of(tree: &Tree, who: u32, source: Source) -> (Option<u32>, Option<u32>)
-    ensures { (x : ℕ) → (is_option x result.0 || is_option x result.1)
-        ≡ is_reset_with tree.now.nodes x who source }
+// The elements of whose children a birth can change what is kept for an item with this source of an
+// element whose time parent is `above`.
+fn resets_of(tree: &Tree, above: Option<u32>, source: Source) -> (Option<u32>, Option<u32>)
+    ensures { (x who : ℕ) → above ≡ serial_of (time_parent tree.now.nodes who)
+        → (is_option x result.0 || is_option x result.1) ≡ is_reset_with tree.now.nodes x who source }
 {
-    let above = parent_of(tree, who);
     match source {
         Source::Start | Source::Eventbase { .. } | Source::Key { .. } => (above, None),
         Source::Syncbase { of, .. } => (above, parent_of(tree, of)),

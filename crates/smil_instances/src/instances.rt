@@ -1,6 +1,6 @@
 //! The instance times that a diary alone gives, kept while entries are appended.
 
-ghost use Rattle.std.specs.Prelude.{◌≡◌, ◌<◌, ℤ, List, [], ◌∷◌, ◌++◌, OnOk, OnErr, IfOk, length};
+ghost use Rattle.std.specs.Prelude.{◌≡◌, ◌<◌, ℤ, List, [], ◌∷◌, ◌++◌, OnOk, OnErr, IfOk, length, true};
 ghost use Rattle.smil_model.specs.declared.diary.Entry.{Entry as AnyEntry};
 ghost use Rattle.smil_model.specs.declared.diary.LogEntry.{LogEntry as AnyLogEntry};
 ghost use Rattle.smil_model.specs.declared.document.Node.{Node as AnyNode};
@@ -27,7 +27,6 @@ use super::idle::idle_rows;
 use super::intake::take_in;
 use super::laws::rows_tell_instances;
 use smil_diary::Book;
-use smil_graph::are_alike;
 use smil_instance_rows::{Add, RowNotes, Rows};
 use smil_model::{Duplicate, Edge, Entry, Log, SerialTable, Time};
 use smil_stretch::Clocks;
@@ -90,37 +89,38 @@ impl Instances {
         Instances::over(alloc, tree, places, dependents)
     }
 
-    /// The instance times of an edited document to which nothing has happened yet, by those of the
-    /// document before and the places of its own elements; unless memory runs out. Where the two are
-    /// alike, as `are_alike` of smil_graph says, what their items follow from is shared, and else
-    /// made anew. It takes memory for each element and for each item.
+    /// The instance times of an edited document to which nothing has happened yet, with the places of
+    /// its elements; unless memory runs out. Where `shares` says that its items follow from the same
+    /// as the items here, that is shared, and else made anew. It takes memory for each element and
+    /// for each item.
     pub fn revised(
         &self,
-        before: &Tree,
         after: &Tree,
         places: Rc<SerialTable>,
+        shares: bool,
     ) -> Result<Instances, AllocError>
-        requires dependents { AreDependentsOf before.now.nodes self.now.dependents }
         requires places { IsIndex (serials (elements after.now.nodes)) (get places.value) }
+        requires shares { shares ≡ true → AreDependentsOf after.now.nodes self.now.dependents }
         ensures { (log : List AnyLogEntry)
             → IfOk result (λ value. IsSettled value after.now log []) }
     {
-        let dependents = self.dependents_of(before, after, places.as_ref())?;
+        let dependents = self.dependents_of(after, places.as_ref(), shares)?;
         Instances::over(self.alloc, after, places, dependents)
     }
 
-    // What the items of an edited document, with the places of its elements, follow from.
+    // What the items of an edited document, with the places of its elements, follow from: the same
+    // where `shares` says so.
     fn dependents_of(
         &self,
-        before: &Tree,
         after: &Tree,
         places: &SerialTable,
+        shares: bool,
     ) -> Result<Rc<Dependents>, AllocError>
-        requires dependents { AreDependentsOf before.now.nodes self.now.dependents }
         requires places { IsIndex (serials (elements after.now.nodes)) (get places.now) }
+        requires shares { shares ≡ true → AreDependentsOf after.now.nodes self.now.dependents }
         ensures { IfOk result (λ dependents. AreDependentsOf after.now.nodes dependents.value) }
     {
-        if are_alike(before, after) {
+        if shares {
             let shared = self.dependents.clone()?;
             Ok(shared)
         } else {

@@ -8,7 +8,6 @@ mod arrival;
 mod before;
 mod carried;
 mod contribution;
-mod dependent_lists;
 mod dependents;
 mod dependents_row;
 mod edge_times;

@@ -91,7 +91,7 @@ fn nothing_yet(
     let tree = document.tree();
     let places = document.syncs().places().clone()?;
     let shared = places.clone()?;
-    let instances = present.instances.revised(tree, tree, shared)?;
+    let instances = present.instances.revised(tree, shared, true)?;
     let mut clocks = present.clocks.copy()?;
     clocks.reset();
     Chronicle::over(alloc, tree, places, clocks, instances)

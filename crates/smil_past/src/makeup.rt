@@ -71,8 +71,8 @@ fn keeps_children(tree: &Tree, who: u32) -> bool
     plays_one(tree.kind(who)) && any_freezes(tree, who)
 }
 
-// Whether of the time children of a node of this kind one plays at a time.
-fn plays_one(kind: Kind) -> bool
+/// Whether of the time children of a node of this kind one plays at a time. It takes no memory.
+pub fn plays_one(kind: Kind) -> bool
     ensures { result ≡ (is_seq_kind kind || is_excl_kind kind) }
 {
     matches!(kind, Kind::Seq | Kind::Excl)
@@ -100,8 +100,8 @@ fn freezes(tree: &Tree, who: u32) -> bool
     is_freeze(fill_by(tree.attrs(who), tree.fill_of(who)))
 }
 
-// Whether this fill keeps an element until it is displaced.
-fn is_freeze(fill: Fill) -> bool
+/// Whether this fill keeps an element until it is displaced. It takes no memory.
+pub fn is_freeze(fill: Fill) -> bool
     ensures { result ≡ is_freeze fill }
 {
     matches!(fill, Fill::Freeze)

@@ -11,6 +11,7 @@ ghost use Rattle.smil_instances.specs.Spread.{IsIndex};
 ghost use Rattle.smil_model.specs.diary.Diary.{is_active};
 ghost use Rattle.smil_model.specs.diary.Lawful.{has_element};
 ghost use Rattle.smil_graph.specs.Graph.{document_of};
+ghost use Rattle.smil_graph.specs.Reduced.{all_reduced};
 ghost use Rattle.smil_stretch.specs.Clocks.{AreClocksOf};
 ghost use Rattle.smil_past.specs.Played.{all_played};
 ghost use Rattle.smil_past.specs.Queues.{kept_queues};
@@ -32,7 +33,7 @@ use super::plays::Plays;
 use super::queues::Queues;
 use super::syncs::Syncs;
 use smil_diary::{Book, BookFault};
-use smil_graph::Graph;
+use smil_graph::{Graph, Revised, are_alike};
 use smil_instance_rows::RowNotes;
 use smil_instances::Instances;
 use smil_model::{Duplicate, Entry, Log, LogEntry, SerialTable, Step};
@@ -147,9 +148,32 @@ impl Past {
           marked = None;
         }) }
     {
+        let alike = are_alike(self.tree(), graph.tree());
+        self.revised_by(Revised { graph, alike }, log, entries)
+    }
+
+    /// As `revised`, by the graph of the edited document and the answer whether a graph reads the
+    /// same of both documents, so that they are not compared again.
+    pub fn revised_by(
+        &self,
+        revised: Revised,
+        log: Log,
+        entries: &[Entry],
+    ) -> Result<Past, AllocError>
+        requires possible { IsPossible (document_of revised.graph) log entries.now }
+        requires alike { revised.alike ≡ true
+            → all_reduced self.now.document.nodes ≡ all_reduced revised.graph.nodes }
+        ensures { IfOk result (λ past. past ≡ record {
+          document = document_of revised.graph;
+          log = log;
+          diary = entries.now;
+          marked = None;
+        }) }
+    {
+        let Revised { graph, alike } = revised;
         let places = self.places_of(graph.tree())?;
         let shared = places.clone()?;
-        let chronicle = self.begun_anew(graph.tree(), shared)?;
+        let chronicle = self.begun_anew(graph.tree(), shared, alike)?;
         let mut past = Past::over(self.alloc, graph, log, places, chronicle)?;
         for entry in entries {
             push(&mut past, *entry)?;
@@ -158,13 +182,20 @@ impl Past {
     }
 
     // The chronicle of an edited document to which nothing has happened yet, with the places of its
-    // elements.
-    fn begun_anew(&self, after: &Tree, places: Rc<SerialTable>) -> Result<Chronicle, AllocError>
-        requires { IsIndex (serials (elements after.now.nodes)) (get places.value) }
+    // elements; `alike` only where a graph reads the same of it as of the document here.
+    fn begun_anew(
+        &self,
+        after: &Tree,
+        places: Rc<SerialTable>,
+        alike: bool,
+    ) -> Result<Chronicle, AllocError>
+        requires places { IsIndex (serials (elements after.now.nodes)) (get places.value) }
+        requires alike { alike ≡ true
+            → all_reduced self.now.document.nodes ≡ all_reduced after.now.nodes }
         ensures { (log : List AnyLogEntry) → IfOk result (TellsNothing after.now log) }
     {
         let shared = places.clone()?;
-        let instances = self.instances().revised(self.tree(), after, shared)?;
+        let instances = self.instances().revised(after, shared, alike)?;
         let clocks = self.clocks_of(after)?;
         Chronicle::over(self.alloc, after, places, clocks, instances)
     }

@@ -17,6 +17,7 @@ use crate::makeup::{Makeup, makeup_of};
 use crate::places::element_place;
 use lists::Reader;
 use row::SyncbaseRow;
+use smallvec::SmallVec;
 use smil_graph::Graph;
 use smil_instances::Dependents;
 pub use smil_instances::Syncbase;
@@ -69,13 +70,9 @@ impl Syncs {
         requires places { IsIndex (serials (elements graph.now.nodes)) (get places.value) }
         ensures { IfOk result (λ syncs. syncs ≡ all_syncs graph.now.nodes) }
     {
-        let reader = Reader {
-            alloc,
-            graph,
-            dependents,
-        };
+        let reader = Reader { graph, dependents };
         let tree = graph.tree();
-        let rows = rows_of(&reader, tree, tree.elements())?;
+        let rows = rows_of(alloc, &reader, tree, tree.elements())?;
         Ok(Syncs { places, rows })
     }
 
@@ -142,22 +139,33 @@ fn row_at(rows: &[SyncbaseRow], place: usize) -> Option<&SyncbaseRow>
 }
 
 // The rows of the elements.
-fn rows_of(reader: &Reader, tree: &Tree, whos: &[u32]) -> Result<Vec<SyncbaseRow>, AllocError>
+fn rows_of(
+    alloc: Global,
+    reader: &Reader,
+    tree: &Tree,
+    whos: &[u32],
+) -> Result<Vec<SyncbaseRow>, AllocError>
     requires graph { reader.now.graph.now.nodes ≡ tree.now.nodes }
     requires dependents { AreDependentsOf tree.now.nodes reader.now.dependents.now }
     requires whos { whos.now ≡ serials (elements tree.now.nodes) }
     ensures { IfOk result (λ rows. rows.items ≡ all_syncs tree.now.nodes) }
 {
     tree.valid();
-    let mut rows = Vec::with_capacity(reader.alloc, whos.len())?;
+    let mut rows = Vec::with_capacity(alloc, whos.len())?;
     for (place, who) in whos.iter().enumerate() {
-        rows.push(row_of(reader, tree, place, *who)?)?;
+        rows.push(row_of(alloc, reader, tree, place, *who)?)?;
     }
     Ok(rows)
 }
 
 // The row of the element at a place, by its serial.
-fn row_of(reader: &Reader, tree: &Tree, place: usize, who: u32) -> Result<SyncbaseRow, AllocError>
+fn row_of(
+    alloc: Global,
+    reader: &Reader,
+    tree: &Tree,
+    place: usize,
+    who: u32,
+) -> Result<SyncbaseRow, AllocError>
     requires graph { reader.now.graph.now.nodes ≡ tree.now.nodes }
     requires dependents { AreDependentsOf tree.now.nodes reader.now.dependents.now }
     requires known { IsSome (node_at tree.now.nodes who) }
@@ -165,8 +173,9 @@ fn row_of(reader: &Reader, tree: &Tree, place: usize, who: u32) -> Result<Syncba
         → node_at tree.now.nodes who ≡ Some e → row ≡ sync_row tree.now.nodes e) }
 {
     let attrs = tree.attrs(who);
-    let begins = reader.begin_syncs(place, who, &attrs.begin)?;
-    let ends = reader.end_syncs(place, who, &attrs.end)?;
-    let makeup = makeup_of(tree, who);
-    SyncbaseRow::new(who, begins, ends.as_slice(), makeup)
+    let mut syncs = SmallVec::new(alloc);
+    reader.put_begins(place, who, &attrs.begin, &mut syncs)?;
+    let begins = syncs.len();
+    reader.put_ends(place, who, &attrs.end, &mut syncs)?;
+    SyncbaseRow::new(who, syncs, begins, makeup_of(tree, who))
 }

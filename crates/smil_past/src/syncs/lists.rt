@@ -1,6 +1,6 @@
 //! What the items of a begin or end list wait for.
 
-ghost use Rattle.std.specs.Prelude.{◌≡◌, ◌++◌, IfOk, OnOk, None, Some, slice_get};
+ghost use Rattle.std.specs.Prelude.{◌≡◌, ◌≤◌, ◌++◌, OnOk, None, Some, length, slice_get};
 ghost use Rattle.smil_model.specs.declared.document.Node.{Node as AnyNode};
 ghost use Rattle.smil_model.specs.declared.document.Edge.TheVariants as edge;
 ghost use Rattle.smil_model.specs.document.Document.{elements, node_at};
@@ -13,78 +13,85 @@ use smil_graph::Graph;
 use smil_instance_rows::Cell;
 use smil_instances::{Dependents, Source, Syncbase};
 use smil_model::{Edge, Item, Items};
-use std::alloc::{AllocError, Global};
+use std::alloc::AllocError;
 
 /// What the lists of a document are read with: its graph, and what its items depend on.
 #[derive(Drop)]
 pub struct Reader<'a> {
-    pub alloc: Global,
     pub graph: &'a Graph,
     pub dependents: &'a Dependents,
 }
 
 impl Reader<'_> {
-    /// What the items of the begin list of the element at a place wait for, whose `begin` this is.
-    pub fn begin_syncs(
+    /// Appends what the items of the begin list of the element at a place wait for, whose `begin`
+    /// this is.
+    pub fn put_begins(
         &self,
         place: usize,
         who: u32,
         begin: &Option<Items>,
-    ) -> Result<SmallVec<Syncbase, 1>, AllocError>
+        syncs: &mut SmallVec<Syncbase, 1>,
+    ) -> Result<(), AllocError>
         requires { AreDependentsOf self.now.graph.now.nodes self.now.dependents.now }
-        ensures { IfOk result (λ syncs. (e : AnyNode)
+        ensures { OnOk result ((e : AnyNode)
             → slice_get (elements self.now.graph.now.nodes) place ≡ Some e
             → node_at (elements self.now.graph.now.nodes) who ≡ Some e → e.attrs.begin ≡ begin.now
-            → syncs.items ≡ syncs_of self.now.graph.now.nodes edge.Begin e) }
+            → syncs.new.items
+            ≡ syncs.old.items ++ syncs_of self.now.graph.now.nodes edge.Begin e) }
     {
         match begin {
-            Some(items) => self.list_syncs(place, who, Edge::Begin, items),
-            None => self.default_syncs(place),
+            Some(items) => self.put_list(place, who, Edge::Begin, items, syncs),
+            None => self.put_default(place, syncs),
         }
     }
 
-    /// What the items of the end list of the element at a place wait for, whose `end` this is.
-    pub fn end_syncs(
+    /// Appends what the items of the end list of the element at a place wait for, whose `end` this
+    /// is.
+    pub fn put_ends(
         &self,
         place: usize,
         who: u32,
         end: &Option<Items>,
-    ) -> Result<SmallVec<Syncbase, 1>, AllocError>
+        syncs: &mut SmallVec<Syncbase, 1>,
+    ) -> Result<(), AllocError>
         requires { AreDependentsOf self.now.graph.now.nodes self.now.dependents.now }
-        ensures { IfOk result (λ syncs. (e : AnyNode)
+        ensures told { OnOk result ((e : AnyNode)
             → slice_get (elements self.now.graph.now.nodes) place ≡ Some e
             → node_at (elements self.now.graph.now.nodes) who ≡ Some e → e.attrs.«end» ≡ end.now
-            → syncs.items ≡ syncs_of self.now.graph.now.nodes edge.End e) }
+            → syncs.new.items
+            ≡ syncs.old.items ++ syncs_of self.now.graph.now.nodes edge.End e) }
+        ensures most { OnOk result (length syncs.old.items ≤ length syncs.new.items) }
     {
         match end {
-            Some(items) => self.list_syncs(place, who, Edge::End, items),
-            None => Ok(SmallVec::new(self.alloc)),
+            Some(items) => self.put_list(place, who, Edge::End, items, syncs),
+            None => Ok(()),
         }
     }
 
-    // What the items of a list of the element at a place wait for.
-    fn list_syncs(
+    // Appends what the items of a list of the element at a place wait for.
+    fn put_list(
         &self,
         place: usize,
         who: u32,
         side: Edge,
         items: &Items,
-    ) -> Result<SmallVec<Syncbase, 1>, AllocError>
+        syncs: &mut SmallVec<Syncbase, 1>,
+    ) -> Result<(), AllocError>
         requires { AreDependentsOf self.now.graph.now.nodes self.now.dependents.now }
-        ensures { IfOk result (λ syncs. (e : AnyNode)
-            → IsListOf self.now.graph.now.nodes place who side e items.now → syncs.items
-            ≡ syncs_of self.now.graph.now.nodes side e) }
+        ensures told { OnOk result ((e : AnyNode)
+            → IsListOf self.now.graph.now.nodes place who side e items.now → syncs.new.items
+            ≡ syncs.old.items ++ syncs_of self.now.graph.now.nodes side e) }
+        ensures most { OnOk result (length syncs.old.items ≤ length syncs.new.items) }
     {
-        let mut syncs = SmallVec::new(self.alloc);
         for (at, item) in items.slice().iter().enumerate() {
             let cell = Cell {
                 row: place,
                 side,
                 item: at,
             };
-            push_some(&mut syncs, self.sync(cell, who, item))?;
+            push_some(syncs, self.sync(cell, who, item))?;
         }
-        Ok(syncs)
+        Ok(())
     }
 
     // What the item of a cell waits for, whose element has this serial.
@@ -99,22 +106,21 @@ impl Reader<'_> {
         sync_from(offset, self.dependents.source(cell))
     }
 
-    // What the item waits for that stands for a begin list where there is none: an offset of 0, or
-    // `indefinite` in a child of an excl, whose source is nothing.
-    fn default_syncs(&self, place: usize) -> Result<SmallVec<Syncbase, 1>, AllocError>
+    // Appends what the item waits for that stands for a begin list where there is none: an offset
+    // of 0, or `indefinite` in a child of an excl, whose source is nothing.
+    fn put_default(&self, place: usize, syncs: &mut SmallVec<Syncbase, 1>) -> Result<(), AllocError>
         requires { AreDependentsOf self.now.graph.now.nodes self.now.dependents.now }
-        ensures { IfOk result (λ syncs. (e : AnyNode)
+        ensures { OnOk result ((e : AnyNode)
             → slice_get (elements self.now.graph.now.nodes) place ≡ Some e → e.attrs.begin ≡ None
-            → syncs.items ≡ syncs_of self.now.graph.now.nodes edge.Begin e) }
+            → syncs.new.items
+            ≡ syncs.old.items ++ syncs_of self.now.graph.now.nodes edge.Begin e) }
     {
         let source = self.dependents.source(Cell {
             row: place,
             side: Edge::Begin,
             item: 0,
         });
-        let mut syncs = SmallVec::new(self.alloc);
-        push_some(&mut syncs, sync_from(0, source))?;
-        Ok(syncs)
+        push_some(syncs, sync_from(0, source))
     }
 }
 

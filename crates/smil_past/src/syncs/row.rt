@@ -1,6 +1,6 @@
 //! What evaluation reads of the document for one element.
 
-ghost use Rattle.std.specs.Prelude.{◌≡◌, IfOk};
+ghost use Rattle.std.specs.Prelude.{◌≡◌, ◌≤◌, IfOk, length, take, drop};
 ghost use Rattle.smil_past.specs.Syncs.{syncs_on};
 
 use crate::makeup::Makeup;
@@ -39,31 +39,29 @@ impl Model for SyncbaseRow {
 }
 
 impl SyncbaseRow {
-    /// The row of an element, of what its begin and its end items wait for. Refused as where memory
-    /// runs out also where there are 2^32 begin items or more.
+    /// The row of an element, of what its begin items wait for, `begins` of them, and then what its
+    /// end items wait for. Refused as where memory runs out also where there are 2^32 begin items or
+    /// more.
     pub(crate) fn new(
         serial: u32,
-        begins: SmallVec<Syncbase, 1>,
-        ends: &[Syncbase],
+        syncs: SmallVec<Syncbase, 1>,
+        begins: usize,
         makeup: Makeup,
     ) -> Result<SyncbaseRow, AllocError>
+        requires { begins ≤ length syncs.items }
         ensures { IfOk result (λ row. row ≡ record {
           serial = serial;
-          begins = begins.items;
-          ends = ends.now;
+          begins = take begins syncs.items;
+          ends = drop begins syncs.items;
           makeup = makeup;
         }) }
     {
-        let Ok(count) = u32::try_from(begins.len()) else {
+        let Ok(begins) = u32::try_from(begins) else {
             return Err(AllocError);
         };
-        let mut syncs = begins;
-        if !ends.is_empty() {
-            syncs.extend_from_slice(ends)?;
-        }
         Ok(SyncbaseRow {
             serial,
-            begins: count,
+            begins,
             makeup,
             syncs,
         })

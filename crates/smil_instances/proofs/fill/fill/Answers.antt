@@ -1,14 +1,12 @@
-use Rattle.std.proofs.Common.{◌≡◌, sym, subst, ap, ◌∙◌, ◌+◌, arith, get_or, length}
-use Rattle.std.proofs.lemmas.Bool.{eq-eqb}
+use Rattle.std.proofs.Common.{◌≡◌, subst, ap, ◌∙◌, ◌+◌, arith, length}
 use Rattle.smil_model.specs.declared.document.Edge.TheVariants.{Begin, End}
 use Rattle.std.proofs.lemmas.List.{length-map}
 use Rattle.smil_model.specs.declared.document.Node.{Node}
-use Rattle.smil_model.specs.document.Document.{elements, has_serial}
+use Rattle.smil_model.specs.document.Document.{elements}
 use Rattle.smil_instances.specs.Sources.{concerns_cell}
 use Rattle.smil_instances.specs.Spread.{Takes, first_rows, row_items, side_items}
-use Rattle.smil_instances.proofs.EmptyRows.{at_place}
 use Rattle.smil_instances.proofs.CellGrowth.{sources_stay, takes_none, takes_then}
-use Rattle.smil_instances.proofs.CellSpreading.{both_sides, no_rows, rows_next}
+use Rattle.smil_instances.proofs.CellSpreading.{both_sides, no_rows, parent_at, rows_next}
 use Rattle.smil_instances.proofs.fill.fill.Goals as goal
 
 pub loop-row-init : goal.loop-row-init
@@ -17,11 +15,13 @@ loop-row-init c = takes_none c.args.tree.now.nodes (first_rows c.args.tree.now.n
 pub fill_side-requires-clause-sources : goal.fill_side-requires-clause-sources
 fill_side-requires-clause-sources c = sources_stay c.args.tree.now.nodes (first_rows c.args.tree.now.nodes c.loop-row.row) c.args.rows.now c.loop-row.rows c.loop-row.invariant c.requires.sources
 
-pub fill_side-requires-in-loop-row-clause-who : goal.fill_side-requires-in-loop-row-clause-who
-fill_side-requires-in-loop-row-clause-who c =
-    let nodes = c.args.tree.now.nodes in
-    let here = at_place (elements nodes) c.args.whos.now c.loop-row.row c.requires.whos c.loop-row-test.true in
-    ap (has_serial (get_or c.args.whos.now c.loop-row.row 0)) here.at ∙ eq-eqb here.node.serial (get_or c.args.whos.now c.loop-row.row 0) (sym here.serial)
+pub fill_side-requires-clause-above : goal.fill_side-requires-clause-above
+fill_side-requires-clause-above c =
+    parent_at c.args.tree.now.nodes c.args.whos.now c.loop-row.row c.parent_of-above.result c.requires.whos c.loop-row-test.true c.parent_of-above.ensures
+
+pub fill_side-requires-in-loop-row-clause-above : goal.fill_side-requires-in-loop-row-clause-above
+fill_side-requires-in-loop-row-clause-above c =
+    parent_at c.args.tree.now.nodes c.args.whos.now c.loop-row.row c.parent_of-above.result c.requires.whos c.loop-row-test.true c.parent_of-above.ensures
 
 pub fill_side-requires-in-loop-row-clause-sources : goal.fill_side-requires-in-loop-row-clause-sources
 fill_side-requires-in-loop-row-clause-sources c =

@@ -12,8 +12,8 @@ use Rattle.smil_instances.specs.Spread.{IsIndex}
 use Rattle.smil_past.specs.Chronicle.{TellsNothing}
 use Rattle.smil_past.proofs.kept.nothing_yet.Goals as goal
 
-pub revised-requires-clause-dependents : goal.revised-requires-clause-dependents
-revised-requires-clause-dependents c =
+pub revised-requires-clause-shares : goal.revised-requires-clause-shares
+revised-requires-clause-shares c = λ shares.
     subst (λ (d : Document). AreDependentsOf d.nodes c.args.present.now.instances.dependents) (sym c.tree-tree.ensures) c.requires.2.instances_are.dependents
 
 pub revised-requires-clause-places : goal.revised-requires-clause-places

@@ -17,5 +17,5 @@ returns c =
     let long : length new ≡ c.in_ok-rows.rows.len = omega (arith, c.in_ok-fill.ensures.rows, c.deref_mut.ensures.len, c.in_ok-rows.rows.ok.0) in
     let rest = drop (length new) c.in_ok-rows.rows.items in
     let same : new ≡ take c.in_ok-rows.rows.len (new ++ rest) = sym (ap (λ (k : ℕ). take k (new ++ rest)) (sym long) ∙ take-append_seam new rest) in
-    subst (λ (rows : List ElementDependents). AreDependentsOf nodes (record { rows = rows; keys = c.in_ok-keys.keys.items })) (same ∙ sym (c.in_ok-of.ensures ∙ c.deref-3.ensures.value))
+    subst (λ (rows : List ElementDependents). AreDependentsOf nodes (record { rows = rows; keys = c.in_ok-keys.keys.items })) same
     (all_concerned nodes old new c.in_ok-keys.keys.items (c.deref_mut.ensures.value ∙ c.in_ok-rows.ensures) c.in_ok-fill.ensures (λ key. subst (λ (rows : List ElementDependents). AreThose (is_for_key rows key) (keyed_in c.in_ok-keys.keys.items key)) (c.deref-2.ensures.value ∙ sym c.deref_mut.ensures.value) (c.in_ok-keys.ensures key)))

@@ -1,10 +1,11 @@
 use Rattle.std.proofs.Common.{◌≡◌, sym, ap, ◌∙◌, ◌<◌, ◌≤◌, length, arith}
+use Rattle.std.proofs.lemmas.Option.{slice_get_within}
 use Rattle.smil_model.specs.document.Document.{elements}
 use Rattle.smil_instances.specs.Sources.{concerns_cell}
 use Rattle.smil_instances.specs.Dependents.{ElementDependents, sources_of}
 use Rattle.smil_instances.specs.Spread.{first_items, goes_to_all, side_items}
 use Rattle.smil_instances.proofs.CellGrowth.{sources_stay, takes_none, takes_same, takes_then}
-use Rattle.smil_instances.proofs.CellSpreading.{items_all, items_next, no_items, row_below}
+use Rattle.smil_instances.proofs.CellSpreading.{items_all, items_next, no_items}
 use Rattle.smil_instances.proofs.fill.Index.fill_side.Goals as goal
 
 pub loop-item-init : goal.loop-item-init
@@ -22,7 +23,7 @@ loop-item-preserved c =
 pub returns : goal.returns
 returns c =
     let nodes = c.args.self.now.tree.now.nodes in
-    let inside = row_below (elements nodes) c.args.who c.args.row c.requires.who in
+    let inside = slice_get_within (elements nodes) c.args.row c.requires.above.0 c.requires.above.1 in
     let below : c.args.row < length c.args.rows.now = omega (arith, inside, c.requires.rows) in
     let same : length c.sources-item-end.result.now ≡ length (sources_of c.index-rows-row.result c.args.side) = ap length c.sources-item-end.ensures ∙ ap (λ (r : ElementDependents). length (sources_of r c.args.side)) (sym c.index-rows-row.is) in
     let most : length (sources_of c.index-rows-row.result c.args.side) ≤ c.loop-item.item = omega (arith, same, c.loop-item-test.false) in
