@@ -1,7 +1,7 @@
 use Rattle.std.proofs.Common.{◌≡◌, ◌++◌}
 use Rattle.smil_model.specs.happening.Groups.{at_moment, cut_steps}
 use Rattle.smil_element.specs.Parts.{cuts_below}
-use Rattle.smil_element.proofs.happening.cuts.cut_below.Given as goal
+use Rattle.smil_element.proofs.happening.cuts.cut_descendants.Given as goal
 
 -- what is appended, and the cuts that are left, are all cuts
 abbrev pub invariant-loop-node : goal.invariant-loop-node
