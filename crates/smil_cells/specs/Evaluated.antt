@@ -26,11 +26,12 @@ abbrev pub is_container : Option Node → ℕ → Bool
 is_container None s = false
 is_container (Some p) s = (p.serial == s) && has_implicit_duration p
 
--- whether there is an interval, and with this end
+-- whether a time is this value
 abbrev pub is_at : ℤ → Time → Bool
 is_at value (At time) = int_eq time value
 is_at value _ = false
 
+-- whether there is an interval, and with this end
 abbrev pub ends_at : ℤ → Option Interval → Bool
 ends_at value None = false
 ends_at value (Some i) = is_at value i.«end»

@@ -13,6 +13,7 @@ ghost use Rattle.smil_model.specs.shown.Orders.{Presentation, course_of, as_of};
 ghost use Rattle.smil_diary.specs.declared.fault.BookFault.{BookFault as AnyFault};
 ghost use Rattle.smil_diary.specs.declared.fault.BookFault.TheVariants as book_fault;
 ghost use Rattle.smil_graph.specs.Graph.{document_of};
+ghost use Rattle.smil_graph.specs.Reduced.{all_reduced};
 ghost use Rattle.smil_stretch.specs.Clocks.{AreClocksOf};
 ghost use Rattle.smil_past.specs.Past as past_of;
 ghost use Rattle.smil_element.specs.Parts.{coming_meant};
@@ -29,7 +30,7 @@ use super::order::take_elements;
 use super::table::{Since, Table};
 use smil_diary::{Book, BookFault};
 use smil_element::DueChange;
-use smil_graph::Graph;
+use smil_graph::{Graph, Revised};
 use smil_interval::Steps;
 use smil_laws::courses::{
     ended_is_diary, reached_is_past, reaches_further, reaches_over_quiet, too_long_is_full,
@@ -100,22 +101,18 @@ impl<T: Table> Model for Cells<T> {
 impl<T: Table> Cells<T> {
     /// The cells of a valid document at moment 0, with an empty log and an empty diary, and nothing
     /// settled; unless memory runs out.
-    pub fn new<L: Ledger>(
-        alloc: Global,
-        doc: &Doc,
-        steps: &mut Steps<L>,
-    ) -> Result<Self, AllocError>
-        requires { IsValid doc.now }
+    pub fn new<L: Ledger>(alloc: Global, doc: Doc, steps: &mut Steps<L>) -> Result<Self, AllocError>
+        requires { IsValid doc }
         ensures state { IfOk result (λ cells. cells.presentation
-            ≡ record { document = doc.now; log = []; now = 0 }) }
+            ≡ record { document = doc; log = []; now = 0 }) }
         ensures diary { IfOk result (λ cells. cells.diary ≡ []) }
         ensures sound { IfOk result (λ cells. cells.fault ≡ None) }
         ensures unmarked { IfOk result (λ cells. cells.marked ≡ None) }
         ensures counted { steps.old ≤ steps.new }
         ensures most { WhereTold T.counts (steps.new - steps.old
-            ≤ length (elements doc.now.nodes)) }
+            ≤ length (elements doc.nodes)) }
         ensures least { IfOk result (λ cells. WhereTold T.counts
-            (any_interval doc.now.nodes (interval_at cells) ≤ steps.new - steps.old)) }
+            (any_interval doc.nodes (interval_at cells) ≤ steps.new - steps.old)) }
     {
         let tree = Tree::of_doc(alloc, doc)?;
         let past = Past::new(alloc, tree, Log::new(alloc))?;
@@ -311,37 +308,45 @@ impl<T: Table> Cells<T> {
     /// its resolution with that part of the log comes to these entries. No mark stands.
     pub fn rebuilt<L: Ledger>(
         &self,
-        doc: &Doc,
+        doc: Doc,
         len: usize,
         steps: &mut Steps<L>,
     ) -> Result<Self, AllocError>
-        requires { MayRebuild self.now doc.now len }
-        ensures rebuilt { IfOk result (IsRebuilt self.now doc.now len) }
+        requires { MayRebuild self.now doc len }
+        ensures rebuilt { IfOk result (IsRebuilt self.now doc len) }
         ensures counted { steps.old ≤ steps.new }
         ensures most { WhereTold T.counts (steps.new - steps.old
-            ≤ length (elements doc.now.nodes)) }
+            ≤ length (elements doc.nodes)) }
         ensures least { IfOk result (λ cells. WhereTold T.counts
-            (any_interval doc.now.nodes (interval_at cells) ≤ steps.new - steps.old)) }
+            (any_interval doc.nodes (interval_at cells) ≤ steps.new - steps.old)) }
     {
         let tree = Tree::of_doc(self.alloc, doc)?;
-        self.rebuilt_over(Graph::of(self.alloc, tree)?, len, steps)
+        let graph = Graph::of(self.alloc, tree)?;
+        let revised = Revised {
+            graph,
+            alike: false,
+        };
+        self.rebuilt_over(revised, len, steps)
     }
 
-    /// The cells of the document of a graph, with the first entries of this diary and what
-    /// they name of this log, unless memory runs out.
+    /// The cells of the document of a revised graph, with the first entries of this diary and what
+    /// they name of this log, unless memory runs out. Where the graph is said to be alike it reads
+    /// the same of its document as of the document here, and what the items follow from is shared.
     pub fn rebuilt_over<L: Ledger>(
         &self,
-        graph: Graph,
+        revised: Revised,
         len: usize,
         steps: &mut Steps<L>,
     ) -> Result<Self, AllocError>
-        requires { MayRebuild self.now (document_of graph) len }
-        ensures rebuilt { IfOk result (IsRebuilt self.now (document_of graph) len) }
+        requires rebuild { MayRebuild self.now (document_of revised.graph) len }
+        requires alike { revised.alike ≡ true → all_reduced self.now.presentation.document.nodes
+            ≡ all_reduced revised.graph.nodes }
+        ensures rebuilt { IfOk result (IsRebuilt self.now (document_of revised.graph) len) }
         ensures counted { steps.old ≤ steps.new }
         ensures most { WhereTold T.counts (steps.new - steps.old
-            ≤ length (elements graph.nodes)) }
+            ≤ length (elements revised.graph.nodes)) }
         ensures least { IfOk result (λ cells. WhereTold T.counts
-            (any_interval graph.nodes (interval_at cells) ≤ steps.new - steps.old)) }
+            (any_interval revised.graph.nodes (interval_at cells) ≤ steps.new - steps.old)) }
     {
         reached_is_past();
         resolved_is_near();
@@ -349,7 +354,7 @@ impl<T: Table> Cells<T> {
         let log = heard_log(self.alloc, self.past.log(), self.past.book(), len)?;
         let past = self
             .past
-            .revised(graph, log, &self.past.book().entries()[..len])?;
+            .revised_by(revised, log, &self.past.book().entries()[..len])?;
         let moment = last_moment(&past);
         Cells::over(self.alloc, past, moment, steps)
     }
@@ -382,19 +387,19 @@ impl<T: Table> Cells<T> {
     /// else is as before, and `settle` and `hear` answer `Memory` from then on.
     pub fn rebuild<L: Ledger>(
         &mut self,
-        doc: &Doc,
+        doc: Doc,
         len: usize,
         steps: &mut Steps<L>,
     ) -> Result<(), AllocError>
-        requires { MayRebuild self.old doc.now len }
-        ensures rebuilt { OnOk result (IsRebuilt self.old doc.now len self.new) }
+        requires { MayRebuild self.old doc len }
+        ensures rebuilt { OnOk result (IsRebuilt self.old doc len self.new) }
         ensures refused { OnErr result
             (self.new ≡ record self.old { fault = Some book_fault.Memory }) }
         ensures counted { steps.old ≤ steps.new }
         ensures most { WhereTold T.counts (steps.new - steps.old
-            ≤ length (elements doc.now.nodes)) }
+            ≤ length (elements doc.nodes)) }
         ensures least { OnOk result (WhereTold T.counts
-            (any_interval doc.now.nodes (interval_at self.new) ≤ steps.new - steps.old)) }
+            (any_interval doc.nodes (interval_at self.new) ≤ steps.new - steps.old)) }
     {
         match self.rebuilt(doc, len, steps) {
             Ok(rebuilt) => {
@@ -423,6 +428,8 @@ impl<T: Table> Cells<T> {
 
     /// Goes back to the mark, which stands, and takes it away; no refusal is answered any more. It
     /// takes no memory.
+    #[cold]
+    #[inline(never)]
     pub fn back(&mut self)
         requires { is_some self.old.marked ≡ true }
         ensures { (mark : Presentation × List AnyEntry) → self.old.marked ≡ Some mark → self.new

@@ -1,20 +1,21 @@
 //! The elements in whose views entries show.
 
-ghost use Rattle.std.specs.Prelude.{◌≡◌, ℕ, ◌≤◌, ◌&&◌, ◌||◌, length, drop, true, Some, OnOk, IsSome, is_some};
+ghost use Rattle.std.specs.Prelude.{◌≡◌, ℕ, ◌≤◌, ◌&&◌, length, drop, true, Some, OnOk, IsSome, is_some};
 ghost use Rattle.smil_model.specs.declared.document.Node.{Node as AnyNode};
-ghost use Rattle.smil_model.specs.document.Document.{elements, is_excl_kind, is_seq_kind, is_within, node_at, serial_of, time_children};
+ghost use Rattle.smil_model.specs.document.Document.{elements, is_within, node_at, serial_of, time_children};
 ghost use Rattle.smil_model.specs.diary.Lawful.{has_element};
 ghost use Rattle.smil_model.specs.diary.Plays.{last_finished};
 ghost use Rattle.smil_laws.specs.Seen.{starts as starts_in};
 ghost use Rattle.smil_graph.specs.Tables.{takes_turns};
-ghost use Rattle.smil_past.specs.Makeups.{is_freeze, keeps_children};
+ghost use Rattle.smil_past.specs.Makeups.{keeps_children};
 ghost use Rattle.smil_past.specs.Past.{history_of};
 ghost use Rattle.smil_cells.specs.Evaluated.{acts_on};
 ghost use Rattle.smil_cells.specs.Shown.{ArePutWhere, any_rests, any_shows, displaced_in, may_rest, shows_from, shows_in};
 
 use super::order::put_range;
-use smil_model::{Fill, Kind, PlaceSet, Step};
+use smil_model::{PlaceSet, Step};
 use smil_past::Past;
+use smil_past::makeup::{is_freeze, plays_one};
 use smil_tree::Tree;
 use std::alloc::AllocError;
 
@@ -76,6 +77,7 @@ fn touch_element(
 
 // Puts the places of the children of a seq or an excl that may be frozen, and of those below these,
 // in.
+#[inline(never)]
 fn touch_resting(past: &Past, parent: u32, touched: &mut PlaceSet) -> Result<(), AllocError>
     requires { takes_turns (node_at (elements past.now.document.nodes) parent) ≡ true }
     ensures { OnOk result (ArePutWhere past.now.document.nodes
@@ -123,14 +125,7 @@ fn may_rest(past: &Past, who: u32) -> bool
     ensures { (n : AnyNode) → node_at (elements past.now.document.nodes) who ≡ Some n
         → result ≡ may_rest (history_of past.now) n }
 {
-    freezes(past.makeup(who).fill) && has_finished(past, who)
-}
-
-// Whether this fill keeps an element until it is displaced.
-fn freezes(fill: Fill) -> bool
-    ensures { result ≡ is_freeze fill }
-{
-    matches!(fill, Fill::Freeze)
+    is_freeze(past.makeup(who).fill) && has_finished(past, who)
 }
 
 // Whether an element has finished an interval since birth.
@@ -167,15 +162,8 @@ fn starts(step: Step) -> bool
     matches!(step, Step::Began { .. } | Step::Resumed { .. })
 }
 
-// Whether of the children of an element of this kind one plays at a time.
-fn plays_one(kind: Kind) -> bool
-    ensures { result ≡ (is_seq_kind kind || is_excl_kind kind) }
-{
-    matches!(kind, Kind::Seq | Kind::Excl)
-}
-
 // Puts the places of a node and of those below it in.
-#[inline(never)]
+#[inline(always)]
 fn touch_within(tree: &Tree, who: u32, touched: &mut PlaceSet) -> Result<(), AllocError>
     requires { IsSome (node_at tree.now.nodes who) }
     ensures { OnOk result (ArePutWhere tree.now.nodes (is_within tree.now.nodes who) touched.old

@@ -1,5 +1,5 @@
--- Edits that leave the document as it was but for plain texts.
-use Rattle.std.proofs.Common.{◌≡◌, refl, sym, ◌∙◌, ap, ℕ, suc, ◌≤◌, ◌-◌, List, [], ◌∷◌, ◌++◌, append-nil, append_assoc, Bool, true, false, Option, Some, None, cond, arith}
+-- Edits that leave the document as it was but for plain texts, or leave what a graph reads of it.
+use Rattle.std.proofs.Common.{◌≡◌, refl, sym, ◌∙◌, ap, ℕ, suc, ◌≤◌, ◌-◌, List, [], ◌∷◌, ◌++◌, map, append-nil, append_assoc, Bool, true, false, Option, Some, None, cond, arith}
 use Rattle.std.specs.Prelude.{◌==◌, filter, not, IsSome}
 use Rattle.std.specs.List.{list_any}
 use Rattle.std.proofs.lemmas.Bool.{eq-eqb, eqb-true, or_left}
@@ -13,6 +13,7 @@ use Rattle.smil_model.specs.document.Edits.{changed_at, with_attr, without_attr}
 use Rattle.smil_model.specs.document.Valid.{IsNumberedTree}
 use Rattle.smil_model.specs.happening.Resolution.{diary_of}
 use Rattle.smil_model.specs.shown.Orders.{IsState, Presentation, at_moment, changed as changed_views, changes_between, course_of, views_of}
+use Rattle.smil_graph.specs.Reduced.{all_reduced, reduced}
 use Rattle.smil_laws.specs.Edited.{Edit, edited, edited_node, inserts, removes, sets, unsets}
 use Rattle.smil_laws.proofs.NumberedTrees.{ordered}
 use Rattle.smil_text_laws.specs.PlainTexts.{DifferInTexts, bare, without_texts}
@@ -55,17 +56,31 @@ changed_node change s (n ∷ ns) old at = step (n.serial == s) refl at (changed_
         ap (λ (t : Bool). cond ((edit t).serial == s) (Some (edit t)) (node_at (changed_at change s ns) s)) e
         ∙ (ap (λ (t : Bool). cond t (Some n) (node_at (changed_at change s ns) s)) e ∙ rest at)
 
+-- where a function gives the same of it, so it does of all nodes
+other_mapped : (f : Node → Node) (change : Attrs → Attrs) (before : Document) (s : ℕ) (old : Node) → IsNumberedTree before → node_at before.nodes s ≡ Some old → f old ≡ f (with_attrs change old)
+    → map f before.nodes ≡ map f (changed_at change s before.nodes)
+other_mapped f change before s old numbered at same =
+    let a = around change s before.nodes old numbered.distinct at in
+    ap (map f) a.before
+    ∙ (map_append f a.front (old ∷ a.back)
+    ∙ (ap (λ (n : Node). map f a.front ++ n ∷ map f a.back) same
+    ∙ (sym (map_append f a.front (with_attrs change old ∷ a.back)) ∙ sym (ap (map f) a.after))))
+
+one_node : (change : Attrs → Attrs) (before : Document) (s : ℕ) (old new : Node) → node_at before.nodes s ≡ Some old → node_at (changed_at change s before.nodes) s ≡ Some new → with_attrs change old ≡ new
+one_node change before s old new at there = some_node (with_attrs change old) new (sym (changed_node change s before.nodes old at) ∙ there)
+
 -- where its plain texts alone are others, the documents differ in these alone
 other_texts : (change : Attrs → Attrs) (before : Document) (s : ℕ) (old new : Node) → IsNumberedTree before → node_at before.nodes s ≡ Some old
     → node_at (changed_at change s before.nodes) s ≡ Some new → new.attrs ≡ record old.attrs { texts = new.attrs.texts } → DifferInTexts before.nodes (changed_at change s before.nodes)
 other_texts change before s old new numbered at there same =
-    let one : with_attrs change old ≡ new = some_node (with_attrs change old) new (sym (changed_node change s before.nodes old at) ∙ there) in
-    let node : without_texts old ≡ without_texts (with_attrs change old) = sym (ap (λ (a : Attrs). without_texts (record old { attrs = a })) (ap (λ (n : Node). n.attrs) one ∙ same)) in
-    let a = around change s before.nodes old numbered.distinct at in
-    ap bare a.before
-    ∙ (map_append without_texts a.front (old ∷ a.back)
-    ∙ (ap (λ (n : Node). bare a.front ++ n ∷ bare a.back) node
-    ∙ (sym (map_append without_texts a.front (with_attrs change old ∷ a.back)) ∙ sym (ap bare a.after))))
+    let attrs = ap (λ (n : Node). n.attrs) (one_node change before s old new at there) ∙ same in
+    other_mapped without_texts change before s old numbered at (sym (ap (λ (a : Attrs). without_texts (record old { attrs = a })) attrs))
+
+-- where a graph reads the same of it, it reads the same of both documents
+other_read : (change : Attrs → Attrs) (before : Document) (s : ℕ) (old new : Node) → IsNumberedTree before → node_at before.nodes s ≡ Some old
+    → node_at (changed_at change s before.nodes) s ≡ Some new → reduced old ≡ reduced new → all_reduced before.nodes ≡ all_reduced (changed_at change s before.nodes)
+other_read change before s old new numbered at there same =
+    other_mapped reduced change before s old numbered at (same ∙ ap reduced (sym (one_node change before s old new at there)))
 
 -- ---- a node that is taken away
 
@@ -117,6 +132,14 @@ differ before after s old new numbered made at there same =
     let to = changed before after s old new numbered made at there in
     other_texts to.change before s old new numbered at (ap (λ (d : Document). node_at d.nodes s) to.is ∙ there) same
     ∙ ap (λ (d : Document). bare d.nodes) to.is
+
+-- and so what a graph reads
+pub read_alike : (before after : Document) (s : ℕ) (old new : Node) → IsNumberedTree before → IsMade before (site.Old s) after → node_at before.nodes s ≡ Some old → node_at after.nodes s ≡ Some new
+    → reduced old ≡ reduced new → all_reduced before.nodes ≡ all_reduced after.nodes
+read_alike before after s old new numbered made at there same =
+    let to = changed before after s old new numbered made at there in
+    other_read to.change before s old new numbered at (ap (λ (d : Document). node_at d.nodes s) to.is ∙ there) same
+    ∙ ap (λ (d : Document). all_reduced d.nodes) to.is
 
 -- ---- what is told of it, and how often it has intervals evaluated
 

@@ -26,14 +26,14 @@ use super::replay::{cells_with, diary_through};
 use super::viewer::Viewer;
 use smil_cells::{Cells, Table};
 use smil_diary::Book;
-use smil_graph::Revised;
+use smil_graph::{Graph, Revised};
 use smil_instances::parent_of;
 use smil_interval::Steps;
 use smil_model::{GrowingList, Refusal, Who};
 use smil_report::ChangeItem;
 use smil_revision::{
-    Child, LineText, Revision, Setting, agree_but_for_texts, keeps_references, with_child,
-    with_value, without_name, without_node,
+    Child, LineText, Revision, Setting, agree_but_for_texts, are_alike_at, keeps_references,
+    with_child, with_value, without_name, without_node,
 };
 use smil_shown::{Scene, ViewTable, put_all_gone, put_differences};
 use smil_tree::Tree;
@@ -314,9 +314,42 @@ impl<T: Table> PresentationOver<T> {
             (least_loading (edited_to self.now edited) ≤ steps.new - steps.old)) }
     {
         edited.valid();
-        let revised = self.viewer.cells.past().graph().revised(edited)?;
+        let cells = &self.viewer.cells;
+        let revised = self.revised(edited, site)?;
         let len = self.staying(&revised, site)?;
-        cells_with(&self.viewer.cells, revised.graph, len, steps)
+        cells_with(cells, revised, len, steps)
+    }
+
+    // The graph of an edited document, unless memory runs out: where a graph reads the same of the
+    // document, what the graph of the one before has is shared.
+    fn revised(&self, edited: Tree, site: Site) -> Result<Revised, AllocError>
+        requires { IsMade self.now.document site edited }
+        ensures document { IfOk result (λ revised. document_of revised.graph ≡ edited) }
+        ensures alike { IfOk result (λ revised. revised.alike ≡ true
+            → all_reduced self.now.document.nodes ≡ all_reduced revised.graph.nodes) }
+    {
+        if self.is_alike(&edited, site) {
+            let graph = self.viewer.cells.past().graph().shared(edited)?;
+            return Ok(Revised { graph, alike: true });
+        }
+        let graph = Graph::of(self.alloc, edited)?;
+        Ok(Revised {
+            graph,
+            alike: false,
+        })
+    }
+
+    // Whether an edit leaves the document alike in what a graph reads of it. The edited node alone
+    // is compared.
+    fn is_alike(&self, edited: &Tree, site: Site) -> bool
+        requires { IsMade self.now.document site edited.now }
+        ensures { result ≡ true
+            → all_reduced self.now.document.nodes ≡ all_reduced edited.now.nodes }
+    {
+        match site {
+            Site::Old(serial) => are_alike_at(self.tree(), edited, serial),
+            Site::New => false,
+        }
     }
 
     // How many entries of the diary stay by an edit, unless memory runs out: those up to the first

@@ -93,7 +93,7 @@ impl<T: Table> PresentationOver<T> {
             (least_loading playing ≤ steps.new - steps.old)) }
     {
         let replay = Replay { log: &[], to: 0 };
-        let cells = replayed(alloc, &doc, replay, steps)?;
+        let cells = replayed(alloc, doc, replay, steps)?;
         PresentationOver::over(alloc, cells, out)
     }
 

@@ -11,13 +11,14 @@ ghost use Rattle.smil_model.specs.document.Valid.{IsNumberedTree};
 ghost use Rattle.smil_model.specs.reach.Bounds.{through_begin};
 ghost use Rattle.smil_model.specs.shown.Orders.{IsState};
 ghost use Rattle.smil_graph.specs.Graph.{document_of};
+ghost use Rattle.smil_graph.specs.Reduced.{all_reduced};
 ghost use Rattle.smil_cells.specs.CellsState.{IsRebuilt, IsSettled, MayRebuild, CellsState, WhereTold, fresh_since, reached_since};
 ghost use Rattle.smil_live.specs.Counts.{least_loading, most_loading, reached_behind};
 ghost use Rattle.smil_live.specs.Moves.{IsReplayed, IsTooFull, IsUnderWay, edited_to, heard_at, replay_of, sought_of};
 
 use smil_cells::{Cells, Table};
 use smil_diary::Book;
-use smil_graph::Graph;
+use smil_graph::Revised;
 use smil_interval::Steps;
 use smil_model::{Doc, Duplicate, LOG_ENTRIES, LogEntry, Refusal, StepKind};
 use std::alloc::Global;
@@ -36,22 +37,22 @@ pub struct Replay<'a> {
 /// where memory runs out.
 pub fn replayed<T: Table, L: Ledger>(
     alloc: Global,
-    doc: &Doc,
+    doc: Doc,
     replay: Replay<'_>,
     steps: &mut Steps<L>,
 ) -> Result<Cells<T>, Refusal>
-    requires state { IsState (replay_of doc.now replay.log.now replay.to) }
+    requires state { IsState (replay_of doc replay.log.now replay.to) }
     requires from { pos 0 ≤ℤ replay.to }
     ensures ok { IfOk result (IsReplayed
-        (replay_of doc.now replay.entry.log.now replay.entry.to)) }
+        (replay_of doc replay.entry.log.now replay.entry.to)) }
     ensures refused { IfErr result (IsTooFull
-        (replay_of doc.now replay.entry.log.now replay.entry.to)) }
+        (replay_of doc replay.entry.log.now replay.entry.to)) }
     ensures counted { steps.old ≤ steps.new }
     ensures most { IfOk result (λ cells. WhereTold T.counts
         (steps.new - steps.old ≤ most_loading
-        (replay_of doc.now replay.entry.log.now replay.entry.to))) }
+        (replay_of doc replay.entry.log.now replay.entry.to))) }
     ensures least { IfOk result (λ cells. WhereTold T.counts
-        (least_loading (replay_of doc.now replay.entry.log.now replay.entry.to)
+        (least_loading (replay_of doc replay.entry.log.now replay.entry.to)
         ≤ steps.new - steps.old)) }
 {
     let mut cells = Cells::<T>::new(alloc, doc, steps)?;
@@ -88,36 +89,40 @@ pub fn cells_at<T: Table, L: Ledger>(
     Ok(earlier)
 }
 
-/// The cells of the document of a graph with the same log at the same moment, rebuilt from the
-/// first `len` entries of the diary, with which the diary of that document begins too. `DiaryFull`
-/// where that diary would have too many entries, `Memory` where memory runs out.
+/// The cells of an edited document, by its graph, with the same log at the same moment, rebuilt
+/// from the first `len` entries of the diary, with which the diary of that document begins too.
+/// `DiaryFull` where that diary would have too many entries, `Memory` where memory runs out.
 pub fn cells_with<T: Table, L: Ledger>(
     cells: &Cells<T>,
-    graph: Graph,
+    revised: Revised,
     len: usize,
     steps: &mut Steps<L>,
 ) -> Result<Cells<T>, Refusal>
-    requires state { IsState (edited_to cells.now.presentation (document_of graph)) }
-    requires rebuild { MayRebuild cells.now (document_of graph) len }
-    requires way { (rebuilt : CellsState) → IsRebuilt cells.now (document_of graph) len rebuilt
-        → IsUnderWay (edited_to cells.now.presentation (document_of graph))
+    requires state { IsState (edited_to cells.now.presentation (document_of revised.graph)) }
+    requires rebuild { MayRebuild cells.now (document_of revised.graph) len }
+    requires alike { revised.alike ≡ true → all_reduced cells.now.presentation.document.nodes
+        ≡ all_reduced revised.graph.nodes }
+    requires way { (rebuilt : CellsState)
+        → IsRebuilt cells.now (document_of revised.graph) len rebuilt
+        → IsUnderWay (edited_to cells.now.presentation (document_of revised.graph))
         (length rebuilt.presentation.log) rebuilt }
-    ensures ok { IfOk result (IsReplayed (edited_to cells.now.presentation (document_of graph))) }
+    ensures ok { IfOk result
+        (IsReplayed (edited_to cells.now.presentation (document_of revised.graph))) }
     ensures refused { IfErr result
-        (IsTooFull (edited_to cells.now.presentation (document_of graph))) }
+        (IsTooFull (edited_to cells.now.presentation (document_of revised.graph))) }
     ensures counted { steps.old ≤ steps.new }
     ensures most { OnOk result (WhereTold T.counts
-        (steps.new - steps.old ≤ length (elements graph.nodes) + reached_behind len
-        (edited_to cells.now.presentation (document_of graph)))) }
+        (steps.new - steps.old ≤ length (elements revised.graph.nodes) + reached_behind len
+        (edited_to cells.now.presentation (document_of revised.graph)))) }
     ensures least { OnOk result (WhereTold T.counts
-        (least_loading (edited_to cells.now.presentation (document_of graph))
+        (least_loading (edited_to cells.now.presentation (document_of revised.graph))
         ≤ steps.new - steps.old)) }
 {
     let replay = Replay {
         log: cells.log().slice(),
         to: cells.moment(),
     };
-    let mut rebuilt = cells.rebuilt_over(graph, len, steps)?;
+    let mut rebuilt = cells.rebuilt_over(revised, len, steps)?;
     replay_on(&mut rebuilt, replay, steps)?;
     Ok(rebuilt)
 }

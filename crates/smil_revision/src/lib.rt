@@ -8,5 +8,5 @@ mod values;
 
 pub use copies::{with_child, with_value, without_name, without_node};
 pub use references::{Revision, keeps_references};
-pub use same::{agree_but_for_texts, have_same_attrs};
+pub use same::{agree_but_for_texts, are_alike_at, have_same_attrs};
 pub use values::{Child, LineText, Setting};

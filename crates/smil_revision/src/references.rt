@@ -55,12 +55,16 @@ pub fn keeps_references(alloc: Global, revision: Revision<'_>) -> Result<bool, A
 }
 
 // Whether each id of a node in either document names the same element in both, or none. Where the
-// nodes have the same serials, kinds and ids no id is looked up.
+// nodes have the same serials, kinds and ids no id is looked up. The document that has a node more
+// comes first, in which an id that the other doesn't have stands.
 fn keeps_all_ids(old: &Tree, new: &Tree) -> Result<bool, AllocError>
     ensures { IfOk result (λ keeps. keeps ≡ keeps_ids old.now.nodes new.now.nodes) }
 {
     if are_alike(old, new) {
         return Ok(true);
+    }
+    if new.next() > old.next() {
+        return Ok(keeps_ids(new, old, new)? && keeps_ids(old, old, new)?);
     }
     Ok(keeps_ids(old, old, new)? && keeps_ids(new, old, new)?)
 }

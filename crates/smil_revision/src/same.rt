@@ -3,7 +3,9 @@
 ghost use Rattle.std.specs.Prelude.{◌≡◌, ◌↔◌, Some, IsTrue, option_copied};
 ghost use Rattle.smil_model.specs.declared.document.Node.{Node as AnyNode};
 ghost use Rattle.smil_model.specs.document.Document.{node_at};
+ghost use Rattle.smil_graph.specs.Reduced.{reduced};
 
+use smil_graph::is_alike;
 use smil_model::{
     Act, Attrs, Bytes, Count, Dur, Edge, Endsync, Fill, FillDefault, Item, Items, Node, Restart,
     RestartDefault, Texts,
@@ -33,6 +35,19 @@ pub fn agree_but_for_texts(before: &Tree, after: &Tree, serial: u32) -> bool
 {
     match (node_in(before, serial), node_in(after, serial)) {
         (Some(old), Some(new)) => are_same_but_for_texts(&new.attrs, &old.attrs),
+        _ => false,
+    }
+}
+
+/// Whether two documents both have a node of this serial, the same in what a graph reads of it. It
+/// takes no memory.
+pub fn are_alike_at(before: &Tree, after: &Tree, serial: u32) -> bool
+    ensures { IsTrue result ↔ ((old : AnyNode) × (new : AnyNode)
+        × (node_at before.now.nodes serial ≡ Some old)
+        × (node_at after.now.nodes serial ≡ Some new) × (reduced old ≡ reduced new)) }
+{
+    match (node_in(before, serial), node_in(after, serial)) {
+        (Some(old), Some(new)) => is_alike(old, new),
         _ => false,
     }
 }

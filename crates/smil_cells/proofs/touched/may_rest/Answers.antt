@@ -9,10 +9,10 @@ use Rattle.smil_past.specs.Past.{history_of}
 use Rattle.smil_past.proofs.ItemReferences.{stands}
 use Rattle.smil_cells.proofs.touched.may_rest.Goals as goal
 
-pub returns-then-freezes : goal.returns-then-freezes
-returns-then-freezes c = λ n here.
+pub returns-then-is_freeze : goal.returns-then-is_freeze
+returns-then-is_freeze c = λ n here.
     let h = history_of c.args.past.now in
-    let freezes : is_freeze (effective_fill h.nodes n) ≡ true = ap (λ (m : Makeup). is_freeze m.fill) (sym (c.makeup.ensures n here)) ∙ sym c.freezes.ensures ∙ c.if-freezes.true in
+    let freezes : is_freeze (effective_fill h.nodes n) ≡ true = ap (λ (m : Makeup). is_freeze m.fill) (sym (c.makeup.ensures n here)) ∙ sym c.is_freeze.ensures ∙ c.if-is_freeze.true in
     c.has_finished.ensures
     ∙ ap (λ (s : ℕ). is_some (last_finished h s)) (sym (stands (elements h.nodes) c.args.who n here).serial)
     ∙ ap (λ b. b && is_some (last_finished h n.serial)) (sym freezes)

@@ -16,12 +16,12 @@ use Rattle.smil_live.proofs.replay.cells_with.Goals.{In_ok-rebuilt}
 module _ (g : Over) (c : In_ok-rebuilt g) where
   -- the present moment as it is computed
   now : to_z w64 (of_z w64 c.moment.result) ≡ pos c.args.cells.now.presentation.now
-  now = moment_kept (edited_to c.args.cells.now.presentation (document_of c.args.graph)) c.moment.result c.requires.state c.moment.ensures
+  now = moment_kept (edited_to c.args.cells.now.presentation (document_of c.args.revised.graph)) c.moment.result c.requires.state c.moment.ensures
 
   -- what is heard again is the log of the edited presentation
-  again : replay_of c.in_ok-rebuilt.rebuilt.presentation.document c.slice.result.now (to_z w64 (of_z w64 c.moment.result)) ≡ edited_to c.args.cells.now.presentation (document_of c.args.graph)
+  again : replay_of c.in_ok-rebuilt.rebuilt.presentation.document c.slice.result.now (to_z w64 (of_z w64 c.moment.result)) ≡ edited_to c.args.cells.now.presentation (document_of c.args.revised.graph)
   again =
-      replay_is c.args.cells.now.presentation c.in_ok-rebuilt.rebuilt.presentation.document (document_of c.args.graph) c.slice.result.now (to_z w64 (of_z w64 c.moment.result))
+      replay_is c.args.cells.now.presentation c.in_ok-rebuilt.rebuilt.presentation.document (document_of c.args.revised.graph) c.slice.result.now (to_z w64 (of_z w64 c.moment.result))
       c.in_ok-rebuilt.ensures.rebuilt.document_is (c.slice.ensures ∙ c.log.ensures) now
 
 pub replay_on-requires-clause-way : goal.replay_on-requires-clause-way
@@ -41,18 +41,18 @@ returns-clause-ok g c = subst (λ (q : Presentation). IsReplayed q c.replay_on.n
 pub returns-in_err-replay_on-clause-refused : goal.returns-in_err-replay_on-clause-refused
 returns-in_err-replay_on-clause-refused g c =
     let given = c.in_err-replay_on.field-0.0 in
-    on_err (IsTooFull (edited_to c.args.cells.now.presentation (document_of c.args.graph))) c.from_residual-in_err-replay_on.result given c.from_residual-in_err-replay_on.ensures.1
+    on_err (IsTooFull (edited_to c.args.cells.now.presentation (document_of c.args.revised.graph))) c.from_residual-in_err-replay_on.result given c.from_residual-in_err-replay_on.ensures.1
     (subst (λ (q : Presentation). IsTooFull q given) (again g (goal.at.returns-in_err-replay_on-clause-refused g c).In_ok-rebuilt) c.in_err-replay_on.ensures.refused)
 
 pub returns-clause-most : goal.returns-clause-most
 returns-clause-most g c =
-    let doc = document_of c.args.graph in
+    let doc = document_of c.args.revised.graph in
     most_rebuilt g.T.Table.counts (edited_to c.args.cells.now.presentation doc) c.in_ok-rebuilt.rebuilt c.replay_on.new.cells c.args.len (length (elements doc.nodes)) c.args.steps.now c.rebuilt_over.new.steps c.replay_on.new.steps (returns-clause-ok g c)
     c.in_ok-rebuilt.ensures.rebuilt.document_is
     (ap (λ (l : List Entry). length l) c.in_ok-rebuilt.ensures.rebuilt.diary_is ∙ length-take-le c.args.len c.args.cells.now.diary c.requires.rebuild.within) refl c.rebuilt_over.ensures.counted c.replay_on.ensures.counted c.rebuilt_over.ensures.most c.in_ok-replay_on.ensures.most
 
 pub returns-clause-least : goal.returns-clause-least
 returns-clause-least g c =
-    let doc = document_of c.args.graph in
+    let doc = document_of c.args.revised.graph in
     least_anew g.T.Table.counts (edited_to c.args.cells.now.presentation doc) doc c.in_ok-rebuilt.rebuilt c.replay_on.new.cells c.args.steps.now c.rebuilt_over.new.steps c.replay_on.new.steps (returns-clause-ok g c)
     c.in_ok-rebuilt.ensures.rebuilt.document_is refl c.rebuilt_over.ensures.counted c.replay_on.ensures.counted c.in_ok-rebuilt.ensures.least c.in_ok-replay_on.ensures.least

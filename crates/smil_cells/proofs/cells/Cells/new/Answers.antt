@@ -11,5 +11,5 @@ pub over-requires : goal.over-requires
 over-requires g c =
     subst (λ (p : MarkedHistory). MayBegin p (pos 0)) (sym c.in_ok-past.ensures)
     (subst (λ (d : Document). MayBegin (record { document = d; log = c.new.result; diary = []; marked = None }) (pos 0)) (sym c.in_ok-tree.ensures)
-    (subst (λ (l : List LogEntry). MayBegin (record { document = c.args.doc.now; log = l; diary = []; marked = None }) (pos 0)) (sym c.new.ensures)
-    (may_first c.args.doc.now c.requires)))
+    (subst (λ (l : List LogEntry). MayBegin (record { document = c.args.doc; log = l; diary = []; marked = None }) (pos 0)) (sym c.new.ensures)
+    (may_first c.args.doc c.requires)))

@@ -3,7 +3,6 @@ use Rattle.std.specs.Prelude.{IfErr, IfOk, OnOk, ◌-◌, ◌≤◌}
 use Rattle.smil_model.specs.document.Document.{Document}
 use Rattle.smil_model.specs.document.Valid.{IsValid}
 use Rattle.smil_model.specs.shown.Orders.{IsState, Presentation}
-use Rattle.smil_model.specs.diary.Diary.{History}
 use Rattle.smil_graph.specs.Graph.{document_of}
 use Rattle.smil_graph.specs.Reduced.{all_reduced}
 use Rattle.smil_cells.specs.CellsState.{WhereTold}
@@ -42,6 +41,12 @@ pub cells_with-requires-clause-way : goal.cells_with-requires-clause-way
 cells_with-requires-clause-way g c = λ t rebuilt.
     edited_way (edit g (goal.at.cells_with-requires-clause-way g c).In_ok-len) t (rebuilt_with c.self.inside.viewer.cells c.self.inside.edited rebuilt)
 
+pub cells_with-requires-clause-alike : goal.cells_with-requires-clause-alike
+cells_with-requires-clause-alike g c alike =
+    let made = c.self.inside.viewer.cells.presentation.document in
+    reduced_same made.nodes (current made c.self.inside.edited).nodes c.self.invariant.differ
+    ∙ (ap (λ (p : Presentation). all_reduced p.document.nodes) c.self.view_is ∙ c.in_ok-revised.ensures.alike alike)
+
 pub returns-clause-state : goal.returns-clause-state
 returns-clause-state g c =
     on_ok_always c.cells_with.result (edited_state c.args.self.now c.args.edited (subst IsState c.self.view_is (cells_playing c.self.inside.viewer.cells c.self.inside.viewer.seen c.self.inside.edited c.self.invariant).shown_is.state) c.valid.ensures)
@@ -75,8 +80,4 @@ staying-requires-clause-made g c =
     subst (λ (x : Document). IsMade c.args.self.now.document c.args.site x) (sym c.in_ok-revised.ensures.document) c.requires
 
 pub staying-requires-clause-alike : goal.staying-requires-clause-alike
-staying-requires-clause-alike g c alike =
-    let same : c.graph.result.now.nodes ≡ c.self.inside.viewer.cells.presentation.document.nodes = c.graph.ensures ∙ ap (λ (h : History). h.nodes) c.past.ensures in
-    ap (λ (p : Presentation). all_reduced p.document.nodes) (sym c.self.view_is)
-    ∙ (sym (reduced_same c.self.inside.viewer.cells.presentation.document.nodes (current c.self.inside.viewer.cells.presentation.document c.self.inside.edited).nodes c.self.invariant.differ)
-    ∙ (ap all_reduced (sym same) ∙ c.in_ok-revised.ensures.alike alike))
+staying-requires-clause-alike g c = c.in_ok-revised.ensures.alike
