@@ -3,7 +3,7 @@
 # 30, 300, 1,800 and 8,000 elements, or of so many, in nanoseconds: a begin and an end appended to
 # the past, with all that is kept of it, a click that begins an element, which nothing else reads;
 # and at rest and with all elements active the interval of an element (with the references that give
-# a time before it has happened), its facts and its view. It makes a small program over smil_past
+# a time before it has happened) and its view. It makes a small program over smil_past
 # and smil_element in a temporary folder, and runs it by `rt try`, compiled with checks and
 # unproved, which makes it slower than what `rt run` builds: what counts is how the numbers grow.
 set -eu

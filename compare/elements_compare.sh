@@ -1,8 +1,8 @@
 #!/bin/sh
 # elements_compare.sh ORACLE [SEED] [CASES] [FILES]: compares elements one by one with the reference model in the folder
-# ORACLE, after each entry of the diaries of random documents: facts, interval and simple duration
-# by the current intervals of the others, what comes of each with its keys, the group of each
-# coming, what comes first, and the views. It makes a small program in a temporary folder, and runs
+# ORACLE, after each entry of the diaries of random documents: interval by the current intervals of
+# the others, what comes of each with its keys, the group of each coming, what comes first, and the
+# views. It makes a small program in a temporary folder, and runs
 # it by `rt try`, so with checks and unproved: its diaries come from outside. Its last line counts
 # the files: `differs=0` where all is the same.
 set -eu

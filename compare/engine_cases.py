@@ -7,9 +7,9 @@ there are as many more files as keep each answer below the limit of a run.
 
 elements  random documents with logs and diaries: the resolution's, or in each fourth
           case lawful entries of any kind among groups of the resolution. The current
-          intervals are given at each moment that is looked at; wanted are the facts,
-          the interval and the simple duration of each element, what comes of it, the
-          group of each coming, what comes first, and the view of each element.
+          intervals are given at each moment that is looked at; wanted are the interval
+          of each element, what comes of it, the group of each coming, what comes first,
+          and the view of each element.
 cells     random scripts of settling, hearing, marks, copies and rebuilding; wanted are
           the diary, the intervals, the views, the next due moment and the log's length
           after each call, and which views must be among those that it touched.
@@ -35,7 +35,7 @@ import grammar  # noqa: E402
 import laws  # noqa: E402
 from model import HORIZON, Play, TooFull, World  # noqa: E402
 from cases import (  # noqa: E402
-    BOUND, KEYS, Settled, arbitrary, doc_of, entry_text, interval_text, log_text, maybe, resolved, time_text,
+    BOUND, KEYS, Settled, arbitrary, doc_of, entry_text, interval_text, log_text, maybe, resolved,
     with_keys, write_numbered)
 
 ANSWER = 700000
@@ -309,20 +309,6 @@ def played(world, log, entries, moment):
 
 # ----------------------------------------------------------------- texts
 
-def facts_text(scene, e, simple):
-    f, a, w = scene.facts(e), scene.world.attrs[e], scene.world
-    play = '-'
-    if f.active:
-        shift = None if f.paused else scene.outer(e, scene.moment) - scene.run(e, scene.moment)
-        play = '%d %d %d %d %s' % (f.begun, f.first, f.start, f.iteration, maybe(shift))
-    ends = 'hearing' if f.end_hears else 'plain' if 'end' in a else 'absent'
-    count, most = a.get('repeatCount'), a.get('repeatDur')
-    return ' / '.join([
-        '%d %d' % (f.alive, f.deferred), play, '%d' % scene.children_start(w.time_parent[e]), interval_text(f.last),
-        maybe(f.passed), ends, w.restart(e), '%d' % w.min[e], time_text(w.max[e]), time_text(simple), maybe(count),
-        maybe(most, lambda t: t if t == 'indefinite' else time_text(t))])
-
-
 def coming_text(scene, key):
     value, number, _, repeats, e, what, by = key
     return '%d %d %d %d %d %s %d' % (value, number, scene.world.elements.index(e), e, repeats, what, by)
@@ -364,9 +350,7 @@ def told_at(scene, lines):
     current, views = scene.foreseen(), scene.views()
     keys = scene.keys()
     for e in scene.world.elements:
-        simple = scene.simple(e, current.__getitem__)
-        lines.tell('facts', e, facts_text(scene, e, simple))
-        lines.tell('interval', e, '%s / %s' % (interval_text(current[e]), time_text(simple)))
+        lines.tell('interval', e, interval_text(current[e]))
         for k, what in enumerate(('moved', 'repeat')):
             own = [key for key in keys if key[4] == e and (key[5] == 'repeat') == (k == 1)]
             lines.tell(what, e, coming_text(scene, own[0]) if own else '-')
